@@ -1,0 +1,70 @@
+-- Laws of numbers in bytes and of overwritten buffers. Assumes nothing.
+use Prim.Native.Nat.{ℕ, suc, _+_, _*_, _≤_, _<_}
+use native.Mathlib.Nat.{add-zero, add-assoc}
+use native.Mathlib.Numerals.{add-one}
+use native.Mathlib.Omega.{arith}
+use mathlib.Core.Path.{_≡_, refl, sym, ap, _∙_}
+use mathlib.Core.List.{List, [], _∷_, _++_, append-assoc, append-nil, flatMap}
+use lib.ListN.{length, getD, take, drop, length-append, length-take, length-drop, take-append-drop}
+use lib.Seq.{sets, sets-eq, take-at, drop-drop, drop-append-add, length-take-le, take-suc}
+use lib.IntN.{ℤ}
+use Rattle.opcodes.specs.Bytes.{u32Bytes, u32Record, overwrite}
+
+pub length-u32Bytes : (n : ℕ) → length (u32Bytes n) ≡ 4
+unfolding u32Bytes
+length-u32Bytes n = refl
+
+pub length-u32Record : (ns : List ℕ) → length (u32Record ns) ≡ 4 * length ns
+unfolding u32Record flatMap
+length-u32Record [] = refl
+length-u32Record (n ∷ ns) = length-append (u32Bytes n) (flatMap u32Bytes ns) ∙ omega (arith, length-u32Bytes n, length-u32Record ns)
+
+-- stores one after the other are one write
+pub sets-overwrite : (old : List ℕ) (at : ℕ) (new : List ℕ) → at + length new ≤ length old → sets old at new ≡ overwrite old at new
+unfolding overwrite
+sets-overwrite old at new h = sets-eq new old at h
+
+pub length-overwrite : (old : List ℕ) (at : ℕ) (new : List ℕ) → at + length new ≤ length old → length (overwrite old at new) ≡ length old
+unfolding overwrite
+length-overwrite old at new h = simp (length-append, length-take, length-drop) (omega arith)
+
+-- nothing written
+pub overwrite-none : (old : List ℕ) (at : ℕ) → overwrite old at [] ≡ old
+unfolding overwrite
+overwrite-none old at = simp (append-nil, add-zero) (take-append-drop at old)
+
+-- a write right after a write is one write of both
+module _ (old : List ℕ) (at : ℕ) (new more : List ℕ) (fits : at + length new + length more ≤ length old) where
+  front-length : length (take at old ++ new) ≡ at + length new
+  front-length = length-append (take at old) new ∙ ap (λ (n : ℕ). n + length new) (length-take-le at old (omega arith))
+
+  tail-kept : drop (at + length new + length more) (take at old ++ new ++ drop (at + length new) old) ≡ drop (at + length new + length more) old
+  tail-kept =
+      ap (λ (n : ℕ). drop (n + length more) (take at old ++ new ++ drop (at + length new) old)) (sym front-length)
+      ∙ drop-append-add (take at old ++ new) (drop (at + length new) old) (length more)
+      ∙ drop-drop (length more) (at + length new) old
+
+  pub overwrite-next : overwrite (overwrite old at new) (at + length new) more ≡ overwrite old at (new ++ more)
+  unfolding overwrite
+  overwrite-next =
+      rw (take-at (take at old ++ new) (drop (at + length new) old) (at + length new) front-length, tail-kept, append-assoc (take at old) new more, length-append new more, ← add-assoc)
+
+-- ---- a record, value by value
+
+u32Record-snoc : (ns : List ℕ) (n : ℕ) → u32Record (ns ++ (n ∷ [])) ≡ u32Record ns ++ u32Bytes n
+unfolding u32Record flatMap
+u32Record-snoc [] n = append-nil (u32Bytes n)
+u32Record-snoc (m ∷ ns) n = ap (λ (l : List ℕ). u32Bytes m ++ l) (u32Record-snoc ns n) ∙ sym (append-assoc (u32Bytes m) (flatMap u32Bytes ns) (u32Bytes n))
+
+pub record-none : (old : List ℕ) (at : ℕ) → overwrite old at (u32Record []) ≡ old
+unfolding u32Record flatMap
+record-none old at = overwrite-none old at
+
+-- the buffer with the first i values, and value i written after them, has the first i + 1
+pub record-next : (old m m′ : List ℕ) (at i : ℕ) (ns : List ℕ) → i < length ns → at + 4 * length ns ≤ length old → m ≡ overwrite old at (u32Record (take i ns)) → m′ ≡ overwrite m (at + 4 * i) (u32Bytes (getD ns i 0)) → m′ ≡ overwrite old at (u32Record (take (i + 1) ns))
+record-next old m m′ at i ns h fits e d =
+    let k : length (u32Record (take i ns)) ≡ 4 * i = length-u32Record (take i ns) ∙ ap (λ (n : ℕ). 4 * n) (length-take-le i ns (omega arith)) in
+    let s : u32Record (take (i + 1) ns) ≡ u32Record (take i ns) ++ u32Bytes (getD ns i 0) =
+    rw (add-one, take-suc ns i 0) (u32Record-snoc (take i ns) (getD ns i 0)) in
+    d
+    ∙ rw (e, ← k, s) (overwrite-next old at (u32Record (take i ns)) (u32Bytes (getD ns i 0)) (omega (arith, length-u32Bytes (getD ns i 0))))

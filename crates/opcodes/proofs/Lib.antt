@@ -1,0 +1,6 @@
+pub mod Arms
+pub mod ByteLaws
+pub mod FieldLaws
+pub mod ListLaws
+pub mod OpcodeLaws
+mod Signed

@@ -1,5 +1,5 @@
 -- Laws of numbers in bytes and of overwritten buffers. Assumes nothing.
-use Prim.Native.Nat.{ℕ, suc, _+_, _*_, _≤_, _<_}
+use Prim.Native.Nat.{ℕ, suc, _+_, _*_, _/_, _≤_, _<_}
 use native.Mathlib.Nat.{add-zero, add-assoc}
 use native.Mathlib.Numerals.{add-one}
 use native.Mathlib.Omega.{arith}
@@ -8,7 +8,20 @@ use mathlib.Core.List.{List, [], _∷_, _++_, append-assoc, append-nil, flatMap}
 use lib.ListN.{length, getD, take, drop, length-append, length-take, length-drop, take-append-drop}
 use lib.Seq.{sets, sets-eq, take-at, drop-drop, drop-append-add, length-take-le, take-suc}
 use lib.IntN.{ℤ}
-use Rattle.opcodes.specs.Bytes.{u32Bytes, u32Record, overwrite}
+use Rattle.opcodes.specs.Bytes.{overwrite, u32At, u32Bytes, u32Record, u32s}
+use Rattle.opcodes.proofs.ListLaws.{getD-tabulate, length-tabulate}
+
+-- ---- the u32 of a byte list
+
+pub length-u32s : (s : List ℕ) → length (u32s s) ≡ length s / 4
+unfolding u32s
+length-u32s s = length-tabulate _ (length s / 4)
+
+pub getD-u32s : (s : List ℕ) (k : ℕ) → k < length s / 4 → getD (u32s s) k 0 ≡ u32At s (4 * k)
+unfolding u32s
+getD-u32s s k h = getD-tabulate (λ i. u32At s (4 * i)) (length s / 4) k 0 h
+
+-- ---- lengths
 
 pub length-u32Bytes : (n : ℕ) → length (u32Bytes n) ≡ 4
 unfolding u32Bytes
@@ -18,6 +31,8 @@ pub length-u32Record : (ns : List ℕ) → length (u32Record ns) ≡ 4 * length 
 unfolding u32Record flatMap
 length-u32Record [] = refl
 length-u32Record (n ∷ ns) = length-append (u32Bytes n) (flatMap u32Bytes ns) ∙ omega (arith, length-u32Bytes n, length-u32Record ns)
+
+-- ---- overwriting
 
 -- stores one after the other are one write
 pub sets-overwrite : (old : List ℕ) (at : ℕ) (new : List ℕ) → at + length new ≤ length old → sets old at new ≡ overwrite old at new

@@ -1,18 +1,18 @@
 -- The opcodes' two tables agree: the list stands in the order of the numbers. Assumes nothing.
 use Prim.Native.Nat.{ℕ, zero, suc, _≤_, _<_, suc-le-suc}
-use native.Mathlib.Nat.{le-of-suc-le-suc, not-suc-le-zero, zero-add}
+use native.Mathlib.Nat.{le-of-suc-le-suc, not-suc-le-zero}
 use native.Mathlib.Omega.{arith}
 use mathlib.Core.Path.{_≡_, refl, sym, _∙_, ap}
 use mathlib.Core.List.{List, [], _∷_, map}
 use lib.ListN.{length, getD}
-use Rattle.opcodes.specs.Lists.{upFrom}
+use Rattle.opcodes.specs.Lists.{tabulate}
 use Rattle.opcodes.specs.Words.{numberOf, opcodes, entry, opcodeOf}
 use Rattle.opcodes.specs.declared.Opcode51.{Opcode51}
 use Rattle.opcodes.specs.declared.OpcodeField.the-variants.{Known, Unknown}
-use Rattle.opcodes.proofs.ListLaws.{getD-upFrom}
+use Rattle.opcodes.proofs.ListLaws.{getD-tabulate}
 
 -- the numbers of the list are 0 to 37
-in-order : map numberOf opcodes ≡ upFrom 0 38
+in-order : map numberOf opcodes ≡ tabulate 38 (λ n. n)
 unfolding numberOf opcodes
 in-order = refl
 
@@ -43,6 +43,6 @@ known-below n o q = entry-below opcodes n n o q
 pub known-number : (n : ℕ) (o : Opcode51) → opcodeOf n ≡ Known o → n ≡ numberOf o
 unfolding opcodeOf
 known-number n o q =
-    sym (getD-upFrom 0 38 n 0 (known-below n o q) ∙ zero-add n)
+    sym (getD-tabulate (λ n. n) 38 n 0 (known-below n o q))
     ∙ ap (λ (ns : List ℕ). getD ns n 0) (sym in-order)
     ∙ entry-number opcodes n n o q

@@ -1,0 +1,20 @@
+-- One number for a list of words, to which every field of every word's split adds. It serves comparisons with the Rust, and nothing of document 01.
+-- Assumes nothing: these are definitions.
+use Prim.Native.Nat.{ℕ, _+_, _*_, _%_, _^_}
+use mathlib.Core.Bool.{cond}
+use mathlib.Core.List.{List, foldl}
+use Rattle.opcodes.specs.Bytes.{i32Bits}
+use Rattle.opcodes.specs.Words.{aIsRegister, decoded}
+use Rattle.opcodes.specs.declared.OpcodeField.{OpcodeField}
+use Rattle.opcodes.specs.declared.OpcodeField.the-variants.{Known, Unknown}
+use Rattle.opcodes.specs.declared.RawInstruction51.{RawInstruction51}
+
+unfoldable pub opcodeWeight : OpcodeField → ℕ
+opcodeWeight (Known o) = cond (aIsRegister o) 17 19
+opcodeWeight (Unknown n) = 23 + n
+
+unfoldable pub weight : RawInstruction51 → ℕ
+weight w = w .«opcode_num» + w .a * 3 + w .b * 5 + w .c * 7 + w .bx * 11 + i32Bits (w .sbx) * 13 + opcodeWeight (w .opcode)
+
+unfoldable pub digest : List ℕ → ℕ
+digest ws = foldl (λ (sum w : ℕ). (sum + weight (decoded w)) % 2 ^ 64) 0 ws

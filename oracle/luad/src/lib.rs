@@ -1,0 +1,2 @@
+//! luad's published files as one crate.
+include!(concat!(env!("OUT_DIR"), "/published.rs"));

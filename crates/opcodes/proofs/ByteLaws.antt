@@ -1,13 +1,12 @@
 -- Laws of numbers in bytes and of overwritten buffers. Assumes nothing.
-use Prim.Native.Nat.{ℕ, suc, _+_, _*_, _/_, _≤_, _<_}
-use native.Mathlib.Nat.{add-zero, add-assoc}
+use Prim.Native.Nat.{ℕ, _+_, _*_, _/_, _%_, _≤_, _<_, _^_}
+use native.Mathlib.Nat.{add-zero, add-assoc, div-div-eq-div-mul, mod-eq-of-lt}
 use native.Mathlib.Numerals.{add-one}
 use native.Mathlib.Omega.{arith}
-use mathlib.Core.Path.{_≡_, refl, sym, ap, _∙_}
+use mathlib.Core.Path.{_≡_, refl, sym, ap, ap₂, _∙_}
 use mathlib.Core.List.{List, [], _∷_, _++_, append-assoc, append-nil, flatMap}
 use lib.ListN.{length, getD, take, drop, length-append, length-take, length-drop, take-append-drop}
-use lib.Seq.{sets, sets-eq, take-at, drop-drop, drop-append-add, length-take-le, take-suc}
-use lib.IntN.{ℤ}
+use lib.Seq.{sets, sets-eq, take-at, drop-drop, drop-append-add, getD-append-add, length-take-le, take-suc}
 use Rattle.opcodes.specs.Bytes.{overwrite, u32At, u32Bytes, u32Record, u32s}
 use Rattle.opcodes.proofs.ListLaws.{getD-tabulate, length-tabulate}
 
@@ -83,3 +82,30 @@ record-next old m m′ at i ns h fits e d =
     rw (add-one, take-suc ns i 0) (u32Record-snoc (take i ns) (getD ns i 0)) in
     d
     ∙ rw (e, ← k, s) (overwrite-next old at (u32Record (take i ns)) (u32Bytes (getD ns i 0)) (omega (arith, length-u32Bytes (getD ns i 0))))
+
+-- ---- what was written is read back
+
+-- `omega` relates no two quotients of a number, so each step from one byte to the next is stated
+byte-step : (n m : ℕ) → n / 256 ≡ m → n % 256 + m * 256 ≡ n
+byte-step n m e = omega arith
+
+u32At-front : (n : ℕ) (rest : List ℕ) → n < 2 ^ 32 → u32At (u32Bytes n ++ rest) 0 ≡ n
+unfolding u32At u32Bytes
+u32At-front n rest h =
+    let a = byte-step n (n / 256) refl in
+    let b = byte-step (n / 256) (n / 65536) (div-div-eq-div-mul n 256 256) in
+    let c = byte-step (n / 65536) (n / 16777216) (div-div-eq-div-mul n 65536 256) in
+    let d : n / 16777216 % 256 ≡ n / 16777216 = mod-eq-of-lt (omega arith) in
+    omega arith
+
+u32At-append : (xs ys : List ℕ) (at : ℕ) → u32At (xs ++ ys) (length xs + at) ≡ u32At ys at
+unfolding u32At
+u32At-append xs ys at = simp (add-assoc, getD-append-add)
+
+pub u32At-overwrite : (old : List ℕ) (at n : ℕ) → n < 2 ^ 32 → at + 4 ≤ length old → u32At (overwrite old at (u32Bytes n)) at ≡ n
+unfolding overwrite
+u32At-overwrite old at n h fits =
+    let front = take at old in
+    let rest = drop (at + length (u32Bytes n)) old in
+    let e : at ≡ length front + 0 = sym (add-zero (length front) ∙ length-take-le at old (omega arith)) in
+    ap₂ u32At (append-assoc front (u32Bytes n) rest) e ∙ u32At-append front (u32Bytes n ++ rest) 0 ∙ u32At-front n rest h

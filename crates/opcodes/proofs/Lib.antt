@@ -3,4 +3,4 @@ pub mod ByteLaws
 pub mod FieldLaws
 pub mod ListLaws
 pub mod OpcodeLaws
-mod Signed
+pub mod Signed

@@ -8,7 +8,7 @@ use lib.Dec.{T, ltb}
 use lib.IntN.{ℤ, pos, negsuc, subℕ, _+ℤ_, natAbs}
 use lib.Signed.{ltZ, nonNeg}
 use mir.Syntax.{Width, w32, w64}
-use mir.Val.{SFits, hbits}
+use mir.Val.{SFits, hbits, ofZ}
 use mir.Facts.{sfits-widen}
 use Rattle.opcodes.specs.Bytes.{i32Bits}
 
@@ -20,6 +20,12 @@ module _ (w : Width) (a b : ℕ) (ha : a < 2 ^ hbits w) (hb : b < 2 ^ hbits w) w
 
   pub sub-fits : SFits w (subℕ a (suc b))
   sub-fits = by (ltb a (suc b))
+
+-- the bits are those that the machine has
+pub i32Bits-machine : (z : ℤ) → i32Bits z ≡ ofZ w32 z
+unfolding i32Bits
+i32Bits-machine (pos n) = refl
+i32Bits-machine (negsuc n) = refl
 
 -- what `i32_bits` needs of a negative i32
 pub record Negative (z : ℤ) : Type 0 where

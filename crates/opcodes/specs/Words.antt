@@ -215,8 +215,8 @@ pub record Field : Type 0 where
   pub rk : List ℕ
 
 -- its value in a word
-abbrev pub value : Field → ℕ → ℕ
-value f = field (f .position) 9
+abbrev pub operand : Field → ℕ → ℕ
+operand f = field (f .position) 9
 
 -- "SETTABLE, ADD to POW, EQ, LT, LE": both B and C are RK operands
 abbrev rkBoth : List ℕ
@@ -267,8 +267,8 @@ decoded w =
       «opcode_num» = opcode w;
       opcode = opcodeOf (opcode w);
       a = fieldA w;
-      b = value B w;
-      c = value C w;
+      b = operand B w;
+      c = operand C w;
       bx = fieldBx w;
       sbx = fieldsBx w;
     }

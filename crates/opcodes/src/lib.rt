@@ -4,6 +4,9 @@ ghost use Rattle.opcodes.specs.Words.{B, C, aIsRegister, constantIndex, 
 
 pub mod bytes;
 
+// The bit that makes an RK operand a constant.
+pub const BITRK_51: u16 = 256;
+
 // All 38 official Lua 5.1 opcodes.
 pub enum Opcode51 {
     Move,
@@ -72,6 +75,7 @@ pub struct RawInstruction51 {
 }
 
 impl Opcode51 {
+    // The opcode of a number, where it is known.
     pub fn from_u8(val: u8) -> OpcodeField
         ensures { λ r. ⌜ r ≡ opcodeOf val ⌝ }
     {
@@ -118,6 +122,7 @@ impl Opcode51 {
         }
     }
 
+    // Which operand fields the opcode has.
     pub fn mode(self) -> OpMode51
         ensures { λ r. ⌜ r ≡ modeOf self ⌝ }
     {
@@ -209,16 +214,19 @@ impl Opcode51 {
 }
 
 impl RawInstruction51 {
+    pub const OFFSET_SBX: i32 = 131071;
+
+    // Splits a word. The field of n bits from bit k on is raw / 2^k % 2^n.
     pub fn decode(raw: u32) -> RawInstruction51
         ensures { λ r. ⌜ r ≡ decoded raw ⌝ }
     {
-        let opcode_num = (raw % 64) as u8;
+        let opcode_num = (raw % 0x40) as u8;
         let opcode = Opcode51::from_u8(opcode_num);
-        let a = (raw / 64 % 256) as u8;
-        let c = (raw / 16384 % 512) as u16;
-        let b = (raw / 8388608 % 512) as u16;
-        let bx = raw / 16384 % 262144;
-        let sbx = (bx as i32) - 131071;
+        let a = (raw / 0x40 % 0x100) as u8;
+        let c = (raw / 0x4000 % 0x200) as u16;
+        let b = (raw / 0x80_0000 % 0x200) as u16;
+        let bx = raw / 0x4000 % 0x4_0000;
+        let sbx = (bx as i32) - RawInstruction51::OFFSET_SBX;
         RawInstruction51 {
             raw,
             opcode_num,
@@ -264,7 +272,7 @@ impl RawInstruction51 {
 pub fn is_k(value: u16) -> bool
     ensures { λ r. ⌜ r ≡ isConstant value ⌝ }
 {
-    256 <= value
+    BITRK_51 <= value
 }
 
 // The index of the constant that an RK operand of this value names, or the value as it stands.

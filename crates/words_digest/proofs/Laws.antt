@@ -2,9 +2,9 @@
 use Prim.Native.Nat.{ℕ, _+_, _*_, _/_, _%_, _<_, _^_}
 use native.Mathlib.Numerals.{add-one}
 use native.Mathlib.Omega.{arith}
-use mathlib.Core.Path.{_≡_, ap, _∙_}
-use mathlib.Core.List.{List, [], _∷_, _++_, foldl-append}
-use lib.ListN.{length, getD, take}
+use mathlib.Core.Path.{_≡_}
+use mathlib.Core.List.{List, foldl-append}
+use lib.ListN.{length, take}
 use lib.Seq.{take-suc}
 use Rattle.opcodes.specs.Bytes.{u32At, u32s}
 use Rattle.opcodes.specs.Words.{decoded}

@@ -11,7 +11,7 @@ use Rattle.opcodes.specs.declared.RawInstruction51.{RawInstruction51}
 
 unfoldable pub opcodeWeight : OpcodeField → ℕ
 opcodeWeight (Known o) = cond (aIsRegister o) 17 19
-opcodeWeight (Unknown n) = 23 + n
+opcodeWeight (Unknown n) = 23
 
 unfoldable pub weight : RawInstruction51 → ℕ
 weight w = w .«opcode_num» + w .a * 3 + w .b * 5 + w .c * 7 + w .bx * 11 + i32Bits (w .sbx) * 13 + opcodeWeight (w .opcode)

@@ -4,7 +4,7 @@ use opcodes::RawInstruction51;
 use opcodes::bytes::i32_bits;
 use opcodes::bytes::read_u32;
 ghost use mathlib.Core.Path.{_≡_};
-ghost use Prim.Native.Nat.{_<_, _≤_};
+ghost use Prim.Native.Nat.{_<_};
 ghost use Rattle.opcodes.specs.Bytes.{u32s};
 ghost use Rattle.words_digest.specs.Digest.{digest, opcodeWeight, weight};
 
@@ -41,10 +41,10 @@ fn weigh(w: RawInstruction51) -> u64
 
 fn weigh_opcode(o: OpcodeField) -> u64
     ensures { λ r. ⌜ r ≡ opcodeWeight o ⌝ }
-    ensures { λ r. ⌜ r < 300 ⌝ }
+    ensures { λ r. ⌜ r < 24 ⌝ }
 {
     match o {
         OpcodeField::Known(op) => { if op.a_is_register() { 17 } else { 19 } }
-        OpcodeField::Unknown(n) => 23 + (n as u64),
+        OpcodeField::Unknown(_) => 23,
     }
 }

@@ -1,6 +1,5 @@
 -- `weigh_opcode` meets its contract. Assumes nothing.
 use borrow.Author.Needs.{needs}
-use native.Mathlib.Omega.{arith}
 use mathlib.Core.Path.{_≡_, ap, sym, _∙_}
 use mathlib.Core.Bool.{Bool, cond}
 use lib.Dec.{lit<}
@@ -25,7 +24,7 @@ returns-2 c = (ap (λ (r : Bool). cond r 17 19) (sym (c .if1 .left)) ∙ known _
 
 returns-3 : tie.Need-returns-3
 unfolding opcodeWeight
-returns-3 c = (sym (ap opcodeWeight (c .before .o2 .given .1)), omega arith)
+returns-3 c = (sym (ap opcodeWeight (c .enum-told .given .1)), lit< tt)
 
 pub weigh-opcode-spec : {M : Type 1} → statement M
 weigh-opcode-spec =
@@ -33,8 +32,6 @@ weigh-opcode-spec =
     (tie.spec
     (λ c. search needs)
     (λ c κs. search needs)
-    (λ c. search needs)
-    (λ c. search needs)
     (λ c. search needs)
     returns
     returns-2

@@ -1,10 +1,9 @@
 -- `words_digest` meets its contract: after i turns the sum is the digest of the first i words. Assumes nothing.
 use borrow.Author.Needs.{needs}
-use Prim.Native.Nat.{ℕ, _+_, _-_, _*_, _%_, _≤_, _^_}
+use Prim.Native.Nat.{_-_, _≤_}
 use native.Mathlib.Omega.{arith}
 use mathlib.Core.Path.{_≡_, refl, sym, ap, _∙_}
-use mathlib.Core.List.{List}
-use lib.ListN.{length, take}
+use lib.ListN.{take}
 use lib.Seq.{take-all}
 use Rattle.opcodes.specs.Bytes.{u32s}
 use Rattle.opcodes.specs.Words.{decoded}

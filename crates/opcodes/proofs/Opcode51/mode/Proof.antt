@@ -1,10 +1,9 @@
 -- `Opcode51::mode` meets its contract: the two rules are computed at each arm's opcodes. Assumes nothing.
 use Prim.Native.Nat.{ℕ}
-use mathlib.Core.Path.{_≡_}
 use mathlib.Core.Bool.{Bool, true, false, not, _||_}
 use mathlib.Core.List.{[], _∷_}
 use Rattle.opcodes.specs.Lists.{elem}
-use Rattle.opcodes.specs.Words.{JMP, FORLOOP, FORPREP, LOADK, GETGLOBAL, SETGLOBAL, CLOSURE, modeOf, numberOf}
+use Rattle.opcodes.specs.Words.{JMP, FORLOOP, FORPREP, LOADK, GETGLOBAL, SETGLOBAL, CLOSURE, modeOf}
 use Rattle.opcodes.proofs.Arms.{arm}
 use Rattle.opcodes.proofs.Opcode51.mode.Statement.{statement}
 use Rattle.opcodes.proofs.Opcode51.mode.Tie as tie

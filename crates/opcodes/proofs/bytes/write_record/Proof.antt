@@ -1,9 +1,8 @@
 -- `bytes::write_record` meets its contract: after i turns the first i values stand in the buffer. Assumes nothing.
-use Prim.Native.Nat.{_+_, _-_, _*_, _≤_}
+use Prim.Native.Nat.{ℕ, _-_, _≤_}
 use native.Mathlib.Omega.{arith}
 use mathlib.Core.Path.{_≡_, refl, sym, ap, _∙_}
 use mathlib.Core.List.{List}
-use Prim.Native.Nat.{ℕ}
 use lib.ListN.{length, take}
 use lib.Seq.{take-all}
 use Rattle.opcodes.specs.Bytes.{overwrite, u32Record}

@@ -2,7 +2,6 @@
 use borrow.Author.Needs.{needs}
 use native.Mathlib.Numerals.{towards-suc}
 use native.Mathlib.Omega.{arith}
-use mathlib.Core.Path.{_∙_}
 use lib.ListN.{length-set}
 use Rattle.opcodes.specs.Bytes.{u32Bytes}
 use Rattle.opcodes.proofs.ByteLaws.{sets-overwrite}

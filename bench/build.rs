@@ -1,0 +1,6 @@
+//! Links the archives that `rt staticlib` wrote.
+fn main() {
+    let here = std::env::var("CARGO_MANIFEST_DIR").unwrap();
+    println!("cargo:rustc-link-search=native={here}/../target/staticlib");
+    println!("cargo:rerun-if-changed={here}/../target/staticlib/libwords_digest.a");
+}

@@ -82,7 +82,7 @@ fn time() {
     }
 }
 
-/// Each word by itself, so that no two differences can cancel.
+/// Each word by itself, so that differences in two words cannot cancel.
 fn all(step: usize) {
     let (mut compared, mut different) = (0u64, 0u64);
     for word in (0..=u32::MAX).step_by(step) {

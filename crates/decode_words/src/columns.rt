@@ -10,7 +10,7 @@ use opcodes::bytes::write_record;
 
 pub fn print_word(raw: u32) {
     let w = RawInstruction51::decode(raw);
-    io::print_hex(1, raw as u64, 8);
+    io::print_hex(1, w.raw as u64, 8);
     print_fields(w);
     print_constants(w);
     print_record(w);

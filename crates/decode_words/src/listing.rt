@@ -18,7 +18,7 @@ enum Word {
     Malformed,
 }
 
-// Parses the lines of a text and writes their words to a buffer, four bytes each, as many as fit.
+// Parses the lines of a text and writes their words to a buffer, four bytes each.
 pub fn parse(text: &[u8], words: &mut [u8]) -> Listing {
     let mut line = 0;
     let mut at = 0;
@@ -26,9 +26,6 @@ pub fn parse(text: &[u8], words: &mut [u8]) -> Listing {
     while at < text.len() {
         if text.len() - at < 9 {
             return Listing::Malformed(line + 1);
-        }
-        if words.len() - to < 4 {
-            return Listing::Words(to);
         }
         let Word::Value(word) = parse_line(text, at) else {
             return Listing::Malformed(line + 1);

@@ -22,9 +22,6 @@ fn main() {
 
 // The lines of the words in the first `end` bytes.
 fn print_words(words: &[u8], end: usize) {
-    if words.len() < end {
-        return;
-    }
     io::write_all(
         1,
         b"word opcode a b c bx sbx b_k b_index c_k c_index record name mode a_reg b_reg b_rk c_reg c_rk\n",

@@ -7,7 +7,7 @@ use mathlib.Core.Logic.{inl, inr}
 use lib.Dec.{T}
 use types.Run.{OneOf}
 use denote.Enum.Declared.{tagOf}
-use Rattle.opcodes.specs.Lists.{upFrom}
+use Rattle.opcodes.specs.Lists.{elem, upFrom}
 use Rattle.opcodes.specs.Words.{numberOf}
 use Rattle.opcodes.specs.declared.Opcode51.{Opcode51}
 use Rattle.opcodes.specs.declared.Opcode51.the-variants.{Move, LoadK, LoadBool, LoadNil, GetUpval, GetGlobal, GetTable, SetGlobal, SetUpval, SetTable, NewTable, SelfOp, Add, Sub, Mul, Div, Mod, Pow, Unm, Not, Len, Concat, Jmp, Eq, Lt, Le, Test, TestSet, Call, TailCall, Return, ForLoop, ForPrep, TForLoop, SetList, Close, Closure, VarArg}
@@ -96,13 +96,15 @@ select f (n ∷ ns) = keep (f n) n (select f ns)
 abbrev pub keys : (ℕ → Bool) → List ℕ
 keys f = select f (upFrom 0 38)
 
--- of an opcode that came to the arm with the keys `chosen`: a rule that gives b at each of them gives b of the opcode
-pub arm : (rule : ℕ → Bool) (b : Bool) (chosen : ℕ → Bool) (o : Opcode51) → T (passes (λ (n : ℕ). same b (rule n)) (keys chosen)) → OneOf (keys chosen) (tagOf the-type o) → b ≡ rule (numberOf o)
-arm rule b chosen o t e = is-same b _ (at-key (λ (n : ℕ). same b (rule n)) (keys chosen) _ t e) ∙ ap rule (tag-number o)
+-- of an opcode that came to the arm with the keys that `chosen` picks: whether it is in a list, if each of them is, or none
+pub arm : (list : List ℕ) (b : Bool) (chosen : ℕ → Bool) (o : Opcode51) → T (passes (λ (n : ℕ). same b (elem n list)) (keys chosen)) → OneOf (keys chosen) (tagOf the-type o) → b ≡ elem (numberOf o) list
+arm list b chosen o t e =
+    is-same b _ (at-key (λ (n : ℕ). same b (elem n list)) (keys chosen) _ t e)
+    ∙ ap (λ (n : ℕ). elem n list) (tag-number o)
 
--- the arm of the opcodes for which a rule holds, and that of the others
-pub holds : (rule : ℕ → Bool) (o : Opcode51) → T (passes (λ (n : ℕ). same true (rule n)) (keys rule)) → OneOf (keys rule) (tagOf the-type o) → true ≡ rule (numberOf o)
-holds rule o = arm rule true rule o
+-- the arm of the opcodes of a list, and that of the others
+abbrev pub listed : List ℕ → ℕ → Bool
+listed list n = elem n list
 
-pub fails : (rule : ℕ → Bool) (o : Opcode51) → T (passes (λ (n : ℕ). same false (rule n)) (keys (λ (n : ℕ). not (rule n)))) → OneOf (keys (λ (n : ℕ). not (rule n))) (tagOf the-type o) → false ≡ rule (numberOf o)
-fails rule o = arm rule false (λ (n : ℕ). not (rule n)) o
+abbrev pub unlisted : List ℕ → ℕ → Bool
+unlisted list n = not (elem n list)

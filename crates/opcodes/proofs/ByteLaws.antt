@@ -1,10 +1,13 @@
 -- Laws of numbers in bytes and of overwritten buffers. Assumes nothing.
-use Prim.Native.Nat.{ℕ, _+_, _*_, _/_, _%_, _≤_, _<_, _^_}
+use Prim.Native.Nat.{ℕ, _+_, _-_, _*_, _/_, _%_, _≤_, _<_, _^_}
 use native.Mathlib.Nat.{add-zero, add-assoc, div-div-eq-div-mul, mod-eq-of-lt}
 use native.Mathlib.Numerals.{add-one}
 use native.Mathlib.Omega.{arith}
 use mathlib.Core.Path.{_≡_, refl, sym, ap, ap₂, _∙_}
+use mathlib.Core.Bool.{Bool, true, false, cond, not}
 use mathlib.Core.List.{List, [], _∷_, _++_, append-assoc, append-nil, flatMap}
+use borrow.Author.Tests.{le-leb, lt-leb, leb-true, leb-false, not-true, not-false}
+use lib.Dec.{leb}
 use lib.ListN.{length, getD, take, drop, length-append, length-take, length-drop, take-append-drop}
 use lib.Seq.{sets, sets-eq, take-at, drop-drop, drop-append-add, getD-append-add, length-take-le, take-suc}
 use Rattle.opcodes.specs.Bytes.{overwrite, u32At, u32Bytes, u32Record, u32s}
@@ -33,19 +36,37 @@ length-u32Record (n ∷ ns) = length-append (u32Bytes n) (flatMap u32Bytes ns) �
 
 -- ---- overwriting
 
+-- a write that fits, and one that does not
+pub overwrite-fits : (old : List ℕ) (at : ℕ) (new : List ℕ) → at + length new ≤ length old → overwrite old at new ≡ take at old ++ new ++ drop (at + length new) old
+unfolding overwrite
+overwrite-fits old at new h = simp (le-leb _ _ h)
+
+pub overwrite-unfit : (old : List ℕ) (at : ℕ) (new : List ℕ) → length old < at + length new → overwrite old at new ≡ old
+unfolding overwrite
+overwrite-unfit old at new h = simp (lt-leb _ _ h)
+
 -- stores one after the other are one write
 pub sets-overwrite : (old : List ℕ) (at : ℕ) (new : List ℕ) → at + length new ≤ length old → sets old at new ≡ overwrite old at new
-unfolding overwrite
-sets-overwrite old at new h = sets-eq new old at h
+sets-overwrite old at new h = sets-eq new old at h ∙ sym (overwrite-fits old at new h)
 
-pub length-overwrite : (old : List ℕ) (at : ℕ) (new : List ℕ) → at + length new ≤ length old → length (overwrite old at new) ≡ length old
+pub length-overwrite : (old : List ℕ) (at : ℕ) (new : List ℕ) → length (overwrite old at new) ≡ length old
 unfolding overwrite
-length-overwrite old at new h = simp (length-append, length-take, length-drop) (omega arith)
+length-overwrite old at new = go (leb (at + length new) (length old)) refl
+  where
+    go : (b : Bool) → leb (at + length new) (length old) ≡ b → length (cond b (take at old ++ new ++ drop (at + length new) old) old) ≡ length old
+    go true e =
+        let h = leb-true (at + length new) (length old) e in
+        simp (length-append, length-take, length-drop) (omega arith)
+    go false e = refl
 
 -- nothing written
 pub overwrite-none : (old : List ℕ) (at : ℕ) → overwrite old at [] ≡ old
 unfolding overwrite
-overwrite-none old at = simp (append-nil, add-zero) (take-append-drop at old)
+overwrite-none old at = go (leb (at + 0) (length old))
+  where
+    go : (b : Bool) → cond b (take at old ++ [] ++ drop (at + 0) old) old ≡ old
+    go true = simp (append-nil, add-zero) (take-append-drop at old)
+    go false = refl
 
 -- a write right after a write is one write of both
 module _ (old : List ℕ) (at : ℕ) (new more : List ℕ) (fits : at + length new + length more ≤ length old) where
@@ -58,10 +79,16 @@ module _ (old : List ℕ) (at : ℕ) (new more : List ℕ) (fits : at + length n
       ∙ drop-append-add (take at old ++ new) (drop (at + length new) old) (length more)
       ∙ drop-drop (length more) (at + length new) old
 
-  pub overwrite-next : overwrite (overwrite old at new) (at + length new) more ≡ overwrite old at (new ++ more)
-  unfolding overwrite
-  overwrite-next =
+  next-parts : take (at + length new) (take at old ++ new ++ drop (at + length new) old) ++ more ++ drop (at + length new + length more) (take at old ++ new ++ drop (at + length new) old) ≡ take at old ++ (new ++ more) ++ drop (at + length (new ++ more)) old
+  next-parts =
       rw (take-at (take at old ++ new) (drop (at + length new) old) (at + length new) front-length, tail-kept, append-assoc (take at old) new more, length-append new more, ← add-assoc)
+
+  pub overwrite-next : overwrite (overwrite old at new) (at + length new) more ≡ overwrite old at (new ++ more)
+  overwrite-next =
+      ap (λ (l : List ℕ). overwrite l (at + length new) more) (overwrite-fits old at new (omega arith))
+      ∙ overwrite-fits (take at old ++ new ++ drop (at + length new) old) (at + length new) more (simp (length-append, length-take, length-drop) (omega arith))
+      ∙ next-parts
+      ∙ sym (overwrite-fits old at (new ++ more) (omega (arith, length-append new more)))
 
 -- ---- a record, value by value
 
@@ -103,9 +130,27 @@ unfolding u32At
 u32At-append xs ys at = simp (add-assoc, getD-append-add)
 
 pub u32At-overwrite : (old : List ℕ) (at n : ℕ) → n < 2 ^ 32 → at + 4 ≤ length old → u32At (overwrite old at (u32Bytes n)) at ≡ n
-unfolding overwrite
 u32At-overwrite old at n h fits =
     let front = take at old in
     let rest = drop (at + length (u32Bytes n)) old in
     let e : at ≡ length front + 0 = sym (add-zero (length front) ∙ length-take-le at old (omega arith)) in
-    ap₂ u32At (append-assoc front (u32Bytes n) rest) e ∙ u32At-append front (u32Bytes n ++ rest) 0 ∙ u32At-front n rest h
+    ap₂ u32At (overwrite-fits old at (u32Bytes n) (omega (arith, length-u32Bytes n)) ∙ append-assoc front (u32Bytes n) rest) e ∙ u32At-append front (u32Bytes n ++ rest) 0 ∙ u32At-front n rest h
+
+-- ---- the test before a write
+
+-- `has_room` by a quotient and by a product
+pub room-by-quotient : (len at count : ℕ) → at ≤ len → leb count ((len - at) / 4) ≡ leb (at + 4 * count) len
+room-by-quotient len at count h = go (leb count ((len - at) / 4)) refl
+  where
+    go : (b : Bool) → leb count ((len - at) / 4) ≡ b → b ≡ leb (at + 4 * count) len
+    go true e = let k = leb-true count ((len - at) / 4) e in sym (le-leb (at + 4 * count) len (omega arith))
+    go false e = let k = leb-false count ((len - at) / 4) e in sym (lt-leb (at + 4 * count) len (omega arith))
+
+-- where it fails nothing is written, and where it passes the write fits
+pub no-room : (old : List ℕ) (at count : ℕ) (new : List ℕ) (r : Bool) → length new ≡ 4 * count → r ≡ leb (at + 4 * count) (length old) → not r ≡ true → old ≡ overwrite old at new
+no-room old at count new r k e f =
+    let h = leb-false (at + 4 * count) (length old) (sym e ∙ not-true r f) in
+    sym (overwrite-unfit old at new (omega arith))
+
+pub room : (len at count : ℕ) (r : Bool) → r ≡ leb (at + 4 * count) len → not r ≡ false → at + 4 * count ≤ len
+room len at count r e f = leb-true (at + 4 * count) len (sym e ∙ not-false r f)

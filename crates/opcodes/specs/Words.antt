@@ -32,8 +32,8 @@ abbrev pub fieldBx : ℕ → ℕ
 fieldBx = field 14 18
 
 -- "sBx = Bx - 131,071"
-abbrev pub fieldsBx : ℕ → ℤ
-fieldsBx w = pos (fieldBx w) -ℤ pos 131071
+abbrev pub fieldSBx : ℕ → ℤ
+fieldSBx w = pos (fieldBx w) -ℤ pos 131071
 
 -- ---- the opcodes by their numbers: lopcodes.h's order
 
@@ -151,7 +151,7 @@ CLOSURE = 36
 abbrev pub VARARG : ℕ
 VARARG = 37
 
--- luad's name for each
+-- the number of each of luad's names
 unfoldable pub numberOf : Opcode51 → ℕ
 numberOf Move = MOVE
 numberOf LoadK = LOADK
@@ -197,14 +197,19 @@ unfoldable pub opcodes : List Opcode51
 opcodes = Move ∷ LoadK ∷ LoadBool ∷ LoadNil ∷ GetUpval ∷ GetGlobal ∷ GetTable ∷ SetGlobal ∷ SetUpval ∷ SetTable ∷ NewTable ∷ SelfOp ∷ Add ∷ Sub ∷ Mul ∷ Div ∷ Mod ∷ Pow ∷ Unm ∷ Not ∷ Len ∷ Concat ∷ Jmp ∷ Eq ∷ Lt ∷ Le ∷ Test ∷ TestSet ∷ Call ∷ TailCall ∷ Return ∷ ForLoop ∷ ForPrep ∷ TForLoop ∷ SetList ∷ Close ∷ Closure ∷ VarArg ∷ []
 
 -- entry k of a list of opcodes; past its end, the number n is not known
-unfoldable pub entry : List Opcode51 → ℕ → ℕ → OpcodeField
-entry [] k n = Unknown n
-entry (o ∷ os) zero n = Known o
-entry (o ∷ os) (suc k) n = entry os k n
+unfoldable pub opcodeAt : List Opcode51 → ℕ → ℕ → OpcodeField
+opcodeAt [] k n = Unknown n
+opcodeAt (o ∷ os) zero n = Known o
+opcodeAt (o ∷ os) (suc k) n = opcodeAt os k n
 
 -- "Opcodes 0 to 37 are known"
 unfoldable pub opcodeOf : ℕ → OpcodeField
-opcodeOf n = entry opcodes n n
+opcodeOf n = opcodeAt opcodes n n
+
+-- the number in each case of that answer
+unfoldable pub opcodeNumber : OpcodeField → ℕ
+opcodeNumber (Known o) = numberOf o
+opcodeNumber (Unknown n) = n
 
 -- ---- B and C: two values of one kind of field, so that each rule is stated once, of a field
 
@@ -233,8 +238,11 @@ C = record { position = 14; fixed = CONCAT ∷ []; rk = rkBoth ++ GETTABLE ∷ S
 -- ---- the operand rules, each of an opcode
 
 -- "A is a register except in JMP, EQ, LT, LE"
+abbrev pub withoutA : List ℕ
+withoutA = JMP ∷ EQ ∷ LT ∷ LE ∷ []
+
 unfoldable pub aIsRegister : Opcode51 → Bool
-aIsRegister o = not (elem (numberOf o) (JMP ∷ EQ ∷ LT ∷ LE ∷ []))
+aIsRegister o = not (elem (numberOf o) withoutA)
 
 -- "B register: ..", "C register: .."
 unfoldable pub isFixedRegister : Field → Opcode51 → Bool
@@ -253,10 +261,14 @@ unfoldable pub constantIndex : ℕ → ℕ
 constantIndex v = cond (isConstant v) (v - 256) v
 
 -- "JMP, FORLOOP, FORPREP have sBx; LOADK, GETGLOBAL, SETGLOBAL, CLOSURE have Bx; the rest B and C"
+abbrev pub withSBx : List ℕ
+withSBx = JMP ∷ FORLOOP ∷ FORPREP ∷ []
+
+abbrev pub withBx : List ℕ
+withBx = LOADK ∷ GETGLOBAL ∷ SETGLOBAL ∷ CLOSURE ∷ []
+
 unfoldable pub modeOf : Opcode51 → OpMode51
-modeOf o =
-    cond (elem (numberOf o) (JMP ∷ FORLOOP ∷ FORPREP ∷ [])) IAsBx
-    (cond (elem (numberOf o) (LOADK ∷ GETGLOBAL ∷ SETGLOBAL ∷ CLOSURE ∷ [])) IABx IABC)
+modeOf o = cond (elem (numberOf o) withSBx) IAsBx (cond (elem (numberOf o) withBx) IABx IABC)
 
 -- ---- the decoded word
 
@@ -270,5 +282,5 @@ decoded w =
       b = operand B w;
       c = operand C w;
       bx = fieldBx w;
-      sbx = fieldsBx w;
+      sbx = fieldSBx w;
     }

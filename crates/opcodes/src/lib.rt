@@ -9,47 +9,47 @@ pub const BITRK_51: u16 = 256;
 
 // All 38 official Lua 5.1 opcodes.
 pub enum Opcode51 {
-    Move,
-    LoadK,
-    LoadBool,
-    LoadNil,
-    GetUpval,
-    GetGlobal,
-    GetTable,
-    SetGlobal,
-    SetUpval,
-    SetTable,
-    NewTable,
-    SelfOp,
-    Add,
-    Sub,
-    Mul,
-    Div,
-    Mod,
-    Pow,
-    Unm,
-    Not,
-    Len,
-    Concat,
-    Jmp,
-    Eq,
-    Lt,
-    Le,
-    Test,
-    TestSet,
-    Call,
-    TailCall,
-    Return,
-    ForLoop,
-    ForPrep,
-    TForLoop,
-    SetList,
-    Close,
-    Closure,
-    VarArg,
+    Move = 0,
+    LoadK = 1,
+    LoadBool = 2,
+    LoadNil = 3,
+    GetUpval = 4,
+    GetGlobal = 5,
+    GetTable = 6,
+    SetGlobal = 7,
+    SetUpval = 8,
+    SetTable = 9,
+    NewTable = 10,
+    SelfOp = 11,
+    Add = 12,
+    Sub = 13,
+    Mul = 14,
+    Div = 15,
+    Mod = 16,
+    Pow = 17,
+    Unm = 18,
+    Not = 19,
+    Len = 20,
+    Concat = 21,
+    Jmp = 22,
+    Eq = 23,
+    Lt = 24,
+    Le = 25,
+    Test = 26,
+    TestSet = 27,
+    Call = 28,
+    TailCall = 29,
+    Return = 30,
+    ForLoop = 31,
+    ForPrep = 32,
+    TForLoop = 33,
+    SetList = 34,
+    Close = 35,
+    Closure = 36,
+    VarArg = 37,
 }
 
-// The opcode of a decoded word: one of the 38, or its six bits as they stand.
+// An opcode by its number: one of the 38, or the number as it stands, which in a decoded word is its six bits.
 pub enum OpcodeField {
     Known(Opcode51),
     Unknown(u8),
@@ -279,5 +279,9 @@ pub fn is_k(value: u16) -> bool
 pub fn index_k(value: u16) -> u16
     ensures { λ r. ⌜ r ≡ constantIndex value ⌝ }
 {
-    if 256 <= value { value - 256 } else { value }
+    if BITRK_51 <= value {
+        value - BITRK_51
+    } else {
+        value
+    }
 }

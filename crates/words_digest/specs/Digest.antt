@@ -1,4 +1,4 @@
--- One number for a list of words, to which every field of every word's split adds. It serves comparisons with the Rust, and nothing of document 01.
+-- One number for a list of words: the sum of their decoded fields, each with a weight. It serves comparisons with the Rust, and nothing of document 01.
 -- Assumes nothing: these are definitions.
 use Prim.Native.Nat.{ℕ, _+_, _*_, _%_, _^_}
 use mathlib.Core.Bool.{cond}
@@ -9,6 +9,7 @@ use Rattle.opcodes.specs.declared.OpcodeField.{OpcodeField}
 use Rattle.opcodes.specs.declared.OpcodeField.the-variants.{Known, Unknown}
 use Rattle.opcodes.specs.declared.RawInstruction51.{RawInstruction51}
 
+-- an opcode counts by whether it is known, and has a register A
 unfoldable pub opcodeWeight : OpcodeField → ℕ
 opcodeWeight (Known o) = cond (aIsRegister o) 17 19
 opcodeWeight (Unknown n) = 23

@@ -70,7 +70,8 @@ fn line(raw: u32) -> String {
         }
     };
     format!(
-        "{raw:08x} {} {} {} {} {} {} {} {} {} {} {record} {opcode}",
+        "{:08x} {} {} {} {} {} {} {} {} {} {} {record} {opcode}",
+        w.raw,
         w.opcode_num,
         w.a,
         w.b,

@@ -1,4 +1,4 @@
--- `print_words` stays within the words. Assumes nothing.
+-- `print_words` counts up to the last word. Assumes nothing.
 use borrow.Author.Needs.{needs}
 use Prim.Native.Nat.{_-_, _/_, _≤_}
 use native.Mathlib.Omega.{arith}
@@ -19,11 +19,10 @@ print-words-spec =
     Inv-loop
     μ-loop
     (λ c. search needs)
-    (λ c. search needs)
     (λ c κs. search needs)
     (λ c. (omega arith, omega arith))
     (λ c. omega arith)
-    (λ c κs. omega arith)
+    (λ c κs. search needs)
     (λ c κs. search needs)
     (λ c. omega arith)
     (λ c. omega arith)

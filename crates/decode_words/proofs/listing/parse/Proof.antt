@@ -1,4 +1,4 @@
--- `listing::parse` stays within the text and the buffer. Assumes nothing.
+-- `listing::parse` stays within the text. Assumes nothing.
 use borrow.Author.Needs.{needs}
 use Prim.Native.Nat.{_-_, _≤_}
 use native.Mathlib.Omega.{arith}
@@ -8,16 +8,15 @@ use Rattle.decode_words.proofs.listing.parse.Statement.{statement}
 use Rattle.decode_words.proofs.listing.parse.Tie as tie
 
 abbrev Inv-loop : tie.InvT-loop
-Inv-loop text words₀ line₀ at₀ to₀ words line at to = (at ≤ length text) × (line ≤ at) × (to ≤ length words) × (length words ≡ length words₀)
+Inv-loop text words₀ line₀ at₀ to₀ words line at to = (at ≤ length text) × (line ≤ at) × (to ≤ at) × (length words ≡ length words₀)
 
 abbrev μ-loop : tie.MeasureT-loop
 μ-loop text words₀ line₀ at₀ to₀ words line at to = length text - at
 
 loop-again : tie.Need-loop-again Inv-loop μ-loop
 loop-again c =
-    let kept = c .before .before .write-u32 .kept .0 in
-    let s = c .before .before .before .before .before .before .before .before .before .before .before in
-    (omega arith, omega arith, omega arith, kept ∙ s .loop .inv .3)
+    let s = c .before .before .before .before .before .before .before .before .before .before in
+    (omega arith, omega arith, omega arith, c .before .before .write-u32 .kept .0 ∙ s .loop .inv .3)
 
 pub parse-spec : {M : Type 1} → statement M
 parse-spec =
@@ -30,16 +29,13 @@ parse-spec =
     (λ c. omega arith)
     (λ c. omega arith)
     (λ c. search needs)
-    (λ c. omega arith)
-    (λ c. omega arith)
-    (λ c. search needs)
     (λ c κs. omega arith)
     (λ c. search needs)
     (λ c. search needs)
     (λ c. omega arith)
     (λ c. omega arith)
     (λ c. search needs)
-    (λ c κs. omega arith)
+    (λ c κs. search needs)
     (λ c. omega arith)
     (λ c. omega arith)
     (λ c. omega arith)

@@ -1,15 +1,14 @@
--- `Opcode51::c_is_rk` meets its contract: the rule is computed at each arm's opcodes. Assumes nothing.
-use Prim.Native.Nat.{ℕ}
-use mathlib.Core.Bool.{Bool}
-use Rattle.opcodes.specs.Lists.{elem}
+-- `Opcode51::c_is_rk` meets its contract: each arm's opcodes are those of the list, or the others. Assumes nothing.
+use mathlib.Core.Bool.{true, false}
 use Rattle.opcodes.specs.Words.{C, isRk}
-use Rattle.opcodes.proofs.Arms.{fails, holds}
+use Rattle.opcodes.proofs.Arms.{arm, listed, unlisted}
 use Rattle.opcodes.proofs.Opcode51.c_is_rk.Statement.{statement}
 use Rattle.opcodes.proofs.Opcode51.c_is_rk.Tie as tie
 
-rule : ℕ → Bool
-rule n = elem n (C .rk)
-
 pub c-is-rk-spec : {M : Type 1} → statement M
-unfolding rule C isRk
-c-is-rk-spec = tie.close (tie.spec (λ c. holds rule _ tt (c .match .keys1)) (λ c. fails rule _ tt (c .match .keys2)))
+unfolding C isRk
+c-is-rk-spec =
+    tie.close
+    (tie.spec
+    (λ c. arm (C .rk) true (listed (C .rk)) _ tt (c .match .keys1))
+    (λ c. arm (C .rk) false (unlisted (C .rk)) _ tt (c .match .keys2)))

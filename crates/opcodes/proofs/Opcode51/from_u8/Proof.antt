@@ -2,8 +2,8 @@
 use Prim.Native.Nat.{ℕ, zero, suc, _≤_, zero-le}
 use native.Mathlib.Omega.{arith}
 use mathlib.Core.Path.{_≡_, ap, sym}
-use Rattle.opcodes.specs.Words.{entry, opcodeOf, opcodes}
-use Rattle.opcodes.proofs.OpcodeLaws.{entry-past}
+use Rattle.opcodes.specs.Words.{opcodeAt, opcodeOf, opcodes}
+use Rattle.opcodes.proofs.OpcodeLaws.{past-list}
 use Rattle.opcodes.proofs.Opcode51.from_u8.Statement.{statement}
 use Rattle.opcodes.proofs.Opcode51.from_u8.Tie as tie
 
@@ -20,7 +20,7 @@ none-above (suc k) n r =
     omega arith
 
 pub from-u8-spec : {M : Type 1} → statement M
-unfolding opcodeOf opcodes entry
+unfolding opcodeOf opcodes opcodeAt
 from-u8-spec =
     tie.close
     (tie.spec
@@ -62,4 +62,4 @@ from-u8-spec =
     (λ c. sym (ap opcodeOf (c .match .keys36)))
     (λ c. sym (ap opcodeOf (c .match .keys37)))
     (λ c. sym (ap opcodeOf (c .match .keys38)))
-    (λ c. sym (entry-past opcodes (c .before .args .val) (c .before .args .val) (none-above 38 (c .before .args .val) (c .match .rest)))))
+    (λ c. sym (past-list opcodes (c .before .args .val) (c .before .args .val) (none-above 38 (c .before .args .val) (c .match .rest)))))

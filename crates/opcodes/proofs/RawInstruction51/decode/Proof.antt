@@ -17,7 +17,7 @@ use Rattle.opcodes.proofs.RawInstruction51.decode.Tie as tie
 sub-sbx : tie.Need-sub-sbx
 sub-sbx c =
     let bx = c .before .args .raw / 16384 % 262144 in
-    rw (toZ-pos w32 {n = bx} (omega arith)) (sub-fits w32 bx 131070 (omega arith) (lit< tt))
+    rw (toZ-pos w32 {n = bx} (omega arith)) (sub-fits w32 bx _ (omega arith) (lit< tt))
 
 returns : tie.Need-returns
 unfolding decoded B C

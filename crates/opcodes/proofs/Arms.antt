@@ -1,6 +1,6 @@
 -- What an arm of a `match` on an opcode knows, turned into a rule on the opcode's number: one law for every arm. Assumes nothing.
 use Prim.Native.Nat.{ℕ}
-use mathlib.Core.Path.{_≡_, refl, ap, subst⁻¹, _∙_}
+use mathlib.Core.Path.{_≡_, refl, subst, subst⁻¹}
 use mathlib.Core.Bool.{Bool, true, false, not, _&&_}
 use mathlib.Core.List.{List, [], _∷_}
 use mathlib.Core.Logic.{inl, inr}
@@ -96,15 +96,24 @@ select f (n ∷ ns) = keep (f n) n (select f ns)
 abbrev pub keys : (ℕ → Bool) → List ℕ
 keys f = select f (upFrom 0 38)
 
--- of an opcode that came to the arm with the keys that `chosen` picks: whether it is in a list, if each of them is, or none
-pub arm : (list : List ℕ) (b : Bool) (chosen : ℕ → Bool) (o : Opcode51) → T (passes (λ (n : ℕ). same b (elem n list)) (keys chosen)) → OneOf (keys chosen) (tagOf the-type o) → b ≡ elem (numberOf o) list
-arm list b chosen o t e =
-    is-same b _ (at-key (λ (n : ℕ). same b (elem n list)) (keys chosen) _ t e)
-    ∙ ap (λ (n : ℕ). elem n list) (tag-number o)
+-- of an opcode that came to the arm with the keys that `chosen` picks: two rules that agree at each of them agree on the opcode
+pub arm : (f g chosen : ℕ → Bool) (o : Opcode51) → T (passes (λ (n : ℕ). same (f n) (g n)) (keys chosen)) → OneOf (keys chosen) (tagOf the-type o) → f (numberOf o) ≡ g (numberOf o)
+arm f g chosen o t e =
+    subst (λ (n : ℕ). f n ≡ g n) (tag-number o) (is-same _ _ (at-key (λ (n : ℕ). same (f n) (g n)) (keys chosen) _ t e))
 
--- the arm of the opcodes of a list, and that of the others
+-- rules by a list of opcodes: in it, not in it; and one that always answers b
 abbrev pub listed : List ℕ → ℕ → Bool
 listed list n = elem n list
 
 abbrev pub unlisted : List ℕ → ℕ → Bool
 unlisted list n = not (elem n list)
+
+abbrev pub always : Bool → ℕ → Bool
+always b n = b
+
+-- the arm of just the opcodes of a list, and that of all others
+pub inside : (list : List ℕ) (o : Opcode51) → T (passes (λ (n : ℕ). same true (elem n list)) (keys (listed list))) → OneOf (keys (listed list)) (tagOf the-type o) → true ≡ elem (numberOf o) list
+inside list o = arm (always true) (listed list) (listed list) o
+
+pub outside : (list : List ℕ) (o : Opcode51) → T (passes (λ (n : ℕ). same false (elem n list)) (keys (unlisted list))) → OneOf (keys (unlisted list)) (tagOf the-type o) → false ≡ elem (numberOf o) list
+outside list o = arm (always false) (listed list) (unlisted list) o

@@ -270,7 +270,7 @@ withBx = LOADK ∷ GETGLOBAL ∷ SETGLOBAL ∷ CLOSURE ∷ []
 unfoldable pub modeOf : Opcode51 → OpMode51
 modeOf o = cond (elem (numberOf o) withSBx) IAsBx (cond (elem (numberOf o) withBx) IABx IABC)
 
--- ---- the decoded word
+-- ---- the decoded word: every field of a word
 
 unfoldable pub decoded : ℕ → RawInstruction51
 decoded w =

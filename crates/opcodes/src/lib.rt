@@ -191,24 +191,13 @@ impl Opcode51 {
         }
     }
 
-    // Whether C is an RK operand: a register or a constant.
+    // Whether C is an RK operand: where B is, and in two opcodes more.
     pub fn c_is_rk(self) -> bool
         ensures { λ r. ⌜ r ≡ isRk C self ⌝ }
     {
         match self {
-            Opcode51::GetTable
-            | Opcode51::SetTable
-            | Opcode51::SelfOp
-            | Opcode51::Add
-            | Opcode51::Sub
-            | Opcode51::Mul
-            | Opcode51::Div
-            | Opcode51::Mod
-            | Opcode51::Pow
-            | Opcode51::Eq
-            | Opcode51::Lt
-            | Opcode51::Le => true,
-            _ => false,
+            Opcode51::GetTable | Opcode51::SelfOp => true,
+            _ => self.b_is_rk(),
         }
     }
 }

@@ -1,8 +1,8 @@
--- `Opcode51::a_is_register` meets its contract: each arm's opcodes are those of the list, or the others. Assumes nothing.
+-- `Opcode51::a_is_register` meets its contract: the arms have the opcodes of the list, and the others. Assumes nothing.
 use mathlib.Core.Path.{ap}
-use mathlib.Core.Bool.{true, false, not}
+use mathlib.Core.Bool.{not}
 use Rattle.opcodes.specs.Words.{aIsRegister, withoutA}
-use Rattle.opcodes.proofs.Arms.{arm, listed, unlisted}
+use Rattle.opcodes.proofs.Arms.{inside, outside}
 use Rattle.opcodes.proofs.Opcode51.a_is_register.Statement.{statement}
 use Rattle.opcodes.proofs.Opcode51.a_is_register.Tie as tie
 
@@ -11,5 +11,5 @@ unfolding aIsRegister
 a-is-register-spec =
     tie.close
     (tie.spec
-    (λ c. ap not (arm withoutA true (listed withoutA) _ tt (c .match .keys1)))
-    (λ c. ap not (arm withoutA false (unlisted withoutA) _ tt (c .match .keys2))))
+    (λ c. ap not (inside withoutA _ tt (c .match .keys1)))
+    (λ c. ap not (outside withoutA _ tt (c .match .keys2))))

@@ -1,7 +1,6 @@
--- `Opcode51::b_is_rk` meets its contract: each arm's opcodes are those of the list, or the others. Assumes nothing.
-use mathlib.Core.Bool.{true, false}
+-- `Opcode51::b_is_rk` meets its contract: the arms have the opcodes of the list, and the others. Assumes nothing.
 use Rattle.opcodes.specs.Words.{B, isRk}
-use Rattle.opcodes.proofs.Arms.{arm, listed, unlisted}
+use Rattle.opcodes.proofs.Arms.{inside, outside}
 use Rattle.opcodes.proofs.Opcode51.b_is_rk.Statement.{statement}
 use Rattle.opcodes.proofs.Opcode51.b_is_rk.Tie as tie
 
@@ -9,6 +8,4 @@ pub b-is-rk-spec : {M : Type 1} → statement M
 unfolding B isRk
 b-is-rk-spec =
     tie.close
-    (tie.spec
-    (λ c. arm (B .rk) true (listed (B .rk)) _ tt (c .match .keys1))
-    (λ c. arm (B .rk) false (unlisted (B .rk)) _ tt (c .match .keys2)))
+    (tie.spec (λ c. inside (B .rk) _ tt (c .match .keys1)) (λ c. outside (B .rk) _ tt (c .match .keys2)))

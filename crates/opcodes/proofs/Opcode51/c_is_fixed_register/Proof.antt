@@ -1,9 +1,8 @@
--- `Opcode51::c_is_fixed_register` meets its contract: each arm's opcodes are those of the list, or the others. Assumes nothing.
+-- `Opcode51::c_is_fixed_register` meets its contract: the arms have the opcode of the list, and the others. Assumes nothing.
 use borrow.Author.Needs.{needs}
 use mathlib.Core.Path.{ap, sym}
-use mathlib.Core.Bool.{false}
 use Rattle.opcodes.specs.Words.{C, isFixedRegister, numberOf}
-use Rattle.opcodes.proofs.Arms.{arm, unlisted}
+use Rattle.opcodes.proofs.Arms.{outside}
 use Rattle.opcodes.proofs.Opcode51.c_is_fixed_register.Statement.{statement}
 use Rattle.opcodes.proofs.Opcode51.c_is_fixed_register.Tie as tie
 
@@ -14,4 +13,4 @@ c-is-fixed-register-spec =
     (tie.spec
     (λ c. search needs)
     (λ c. ap (isFixedRegister C) (sym (c .enum-told .given .1)))
-    (λ c. arm (C .fixed) false (unlisted (C .fixed)) (c .before .args .self) tt (c .match .keys2)))
+    (λ c. outside (C .fixed) (c .before .args .self) tt (c .match .keys2)))

@@ -21,7 +21,7 @@ fn published(words: &[u8]) -> u64 {
         let opcode = match w.opcode {
             Some(op) if op.a_is_register() => 17,
             Some(_) => 19,
-            None => 23,
+            None => 23 + u64::from(w.opcode_num),
         };
         sum.wrapping_add(
             u64::from(w.opcode_num)

@@ -9,10 +9,18 @@ use Rattle.opcodes.specs.declared.OpcodeField.{OpcodeField}
 use Rattle.opcodes.specs.declared.OpcodeField.the-variants.{Known, Unknown}
 use Rattle.opcodes.specs.declared.RawInstruction51.{RawInstruction51}
 
--- an opcode counts by whether it is known, and has a register A
+-- an opcode counts by whether it is known and has a register A,
+unfoldable pub kindWeight : OpcodeField → ℕ
+kindWeight (Known o) = cond (aIsRegister o) 17 19
+kindWeight (Unknown n) = 23
+
+-- and an unknown one also by its number
+unfoldable pub unknownNumber : OpcodeField → ℕ
+unknownNumber (Known o) = 0
+unknownNumber (Unknown n) = n
+
 unfoldable pub opcodeWeight : OpcodeField → ℕ
-opcodeWeight (Known o) = cond (aIsRegister o) 17 19
-opcodeWeight (Unknown n) = 23
+opcodeWeight o = kindWeight o + unknownNumber o
 
 unfoldable pub weight : RawInstruction51 → ℕ
 weight w = w .«opcode_num» + w .a * 3 + w .b * 5 + w .c * 7 + w .bx * 11 + i32Bits (w .sbx) * 13 + opcodeWeight (w .opcode)

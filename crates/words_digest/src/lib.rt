@@ -6,7 +6,7 @@ use opcodes::bytes::read_u32;
 ghost use mathlib.Core.Path.{_≡_};
 ghost use Prim.Native.Nat.{_<_};
 ghost use Rattle.opcodes.specs.Bytes.{u32s};
-ghost use Rattle.words_digest.specs.Digest.{digest, opcodeWeight, weight};
+ghost use Rattle.words_digest.specs.Digest.{digest, kindWeight, opcodeWeight, unknownNumber, weight};
 
 // The digest of the words, four bytes each. Bytes past the last whole word count for nothing.
 #[no_mangle]
@@ -41,10 +41,27 @@ fn weigh(w: RawInstruction51) -> u64
 
 fn weigh_opcode(o: OpcodeField) -> u64
     ensures { λ r. ⌜ r ≡ opcodeWeight o ⌝ }
+    ensures { λ r. ⌜ r < 300 ⌝ }
+{
+    weigh_kind(o) + unknown_number(o)
+}
+
+fn weigh_kind(o: OpcodeField) -> u64
+    ensures { λ r. ⌜ r ≡ kindWeight o ⌝ }
     ensures { λ r. ⌜ r < 24 ⌝ }
 {
     match o {
         OpcodeField::Known(op) => { if op.a_is_register() { 17 } else { 19 } }
         OpcodeField::Unknown(_) => 23,
+    }
+}
+
+fn unknown_number(o: OpcodeField) -> u64
+    ensures { λ r. ⌜ r ≡ unknownNumber o ⌝ }
+    ensures { λ r. ⌜ r < 256 ⌝ }
+{
+    match o {
+        OpcodeField::Known(_) => 0,
+        OpcodeField::Unknown(n) => n as u64,
     }
 }

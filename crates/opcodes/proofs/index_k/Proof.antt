@@ -8,4 +8,4 @@ pub index-k-spec : {M : Type 1} → statement M
 unfolding constantIndex isConstant
 index-k-spec =
     tie.close
-    (tie.spec (λ c. simp (le-leb _ _ (c .if1 .taken))) (λ c. simp (lt-leb _ _ (c .if1 .left))))
+    (tie.spec (λ c. simp (le-leb 256 _ (c .if1 .taken))) (λ c. simp (lt-leb 256 _ (c .if1 .left))))

@@ -151,6 +151,10 @@ CLOSURE = 36
 abbrev pub VARARG : ℕ
 VARARG = 37
 
+-- the word's opcode is one of these
+unfoldable pub is : ℕ → List ℕ → Bool
+is w ops = elem (opcode w) ops
+
 -- the number of each of luad's names
 unfoldable pub numberOf : Opcode51 → ℕ
 numberOf Move = MOVE

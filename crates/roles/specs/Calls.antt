@@ -1,0 +1,52 @@
+-- What the roles call and the bindings call answer, and what they leave in the buffers lent to them (document 01, "What the counter hears").
+-- Assumes nothing: these are definitions.
+use Prim.Native.Nat.{ℕ}
+use mathlib.Core.List.{List, flatMap}
+use mathlib.Core.Option.{Option, none, some}
+use lib.ListN.{length}
+use Rattle.opcodes.specs.Bytes.{i32Record, u32s, overwrite}
+use Rattle.roles.specs.Table.{rows, protos}
+use Rattle.roles.specs.Roles.{roleRecords}
+use Rattle.roles.specs.Bindings.{Binding, bindings, bindingFields}
+use Rattle.roles.specs.Refusals.{Refused, orElse, rolesRefusal, tooShort, wordTotal}
+
+-- a call's answer: a refusal, or its result
+pub data Answer (A : Type 0) : Type 0 where
+  refused : Refused → Answer A
+  accepted : A → Answer A
+
+unfoldable pub answer : {A : Type 0} → Option Refused → A → Answer A
+answer (some r) a = refused r
+answer none a = accepted a
+
+-- a buffer after a call: as it was where the call is refused, else with the new records in front
+unfoldable pub filled : Option Refused → List ℕ → List ℕ → List ℕ
+filled (some r) old new = old
+filled none old new = overwrite old 0 new
+
+-- ---- the roles call: "has 1 to 7"
+
+-- "the number of records"
+unfoldable pub rolesAnswer : List ℕ → List ℕ → ℕ → Answer ℕ
+rolesAnswer table words roleLength = answer (rolesRefusal table words roleLength) (wordTotal (rows table))
+
+-- the role buffer after any of the three calls: "8 comes with roles written"
+unfoldable pub rolesAfter : List ℕ → List ℕ → List ℕ → List ℕ
+rolesAfter table words roles = filled (rolesRefusal table words (length roles)) roles (i32Record (roleRecords (protos table words)))
+
+-- ---- the bindings call: 1 to 8, and the role buffer as the roles call leaves it
+
+unfoldable pub imageBindings : List ℕ → List ℕ → List Binding
+imageBindings table words = bindings (rows table) (u32s words)
+
+unfoldable pub bindingsRefusal : List ℕ → List ℕ → ℕ → ℕ → Option Refused
+bindingsRefusal table words roleLength bindingLength =
+    orElse (rolesRefusal table words roleLength) (tooShort (length (imageBindings table words)) 12 bindingLength)
+
+unfoldable pub bindingsAnswer : List ℕ → List ℕ → ℕ → ℕ → Answer ℕ
+bindingsAnswer table words roleLength bindingLength =
+    answer (bindingsRefusal table words roleLength bindingLength) (length (imageBindings table words))
+
+unfoldable pub bindingsAfter : List ℕ → List ℕ → ℕ → List ℕ → List ℕ
+bindingsAfter table words roleLength bindings =
+    filled (bindingsRefusal table words roleLength (length bindings)) bindings (i32Record (flatMap bindingFields (imageBindings table words)))

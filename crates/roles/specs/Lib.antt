@@ -1,0 +1,5 @@
+pub mod Table
+pub mod Roles
+pub mod Bindings
+pub mod Refusals
+pub mod Calls

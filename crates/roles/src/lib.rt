@@ -1,0 +1,1 @@
+// The prototype table, roles and upvalue bindings: so far as definitions, in specs/.

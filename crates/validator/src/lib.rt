@@ -1,0 +1,1 @@
+// Diagnostics, the walk and the verdict: so far as definitions, in specs/.

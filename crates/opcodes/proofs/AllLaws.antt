@@ -1,10 +1,12 @@
 -- Laws of a property of each of a list. Assumes nothing.
-use Prim.Native.Nat.{ℕ, zero, suc, _+_, _<_}
+use Prim.Native.Nat.{ℕ, zero, suc, _+_, _≤_, _<_}
 use native.Mathlib.Nat.{not-suc-le-zero, le-of-suc-le-suc, add-zero, add-suc, zero-add, suc-add}
 use native.Mathlib.Omega.{arith}
 use mathlib.Core.Path.{_≡_, refl, sym, _∙_, ap₂, subst}
 use mathlib.Core.List.{List, [], _∷_, _++_, map, flatMap, flatten}
-use Rattle.opcodes.specs.Lists.{All, all-nil, all-cons, upFrom}
+use mathlib.Core.Bool.{Bool, true, false}
+use lib.ListN.{getD}
+use Rattle.opcodes.specs.Lists.{All, all-nil, all-cons, upFrom, select, keepIf, takeWhile, goOnIf}
 
 module _ {A : Type 0} {P : A → Type 0} where
   pub all-append : {xs ys : List A} → All P xs → All P ys → All P (xs ++ ys)
@@ -25,6 +27,12 @@ module _ {A : Type 0} {P : A → Type 0} where
   pub all-tail : {x : A} {xs : List A} → All P (x ∷ xs) → All P xs
   all-tail (all-cons h t) = t
 
+-- an element, and the one that stands for a missing element
+pub element-most : {xs : List ℕ} (limit k : ℕ) → All (λ n. n ≤ limit) xs → getD xs k 0 ≤ limit
+element-most limit k all-nil = omega arith
+element-most limit zero (all-cons h hs) = h
+element-most limit (suc k) (all-cons h hs) = element-most limit k hs
+
 -- ---- lists end to end
 
 module _ {A : Type 0} {P : A → Type 0} where
@@ -37,6 +45,25 @@ module _ {A : Type 0} {P : A → Type 0} where
   unfolding flatten
   flatten-all [] h = all-nil
   flatten-all (l ∷ L) h = all-cons (all-left l (flatten L) h) (flatten-all L (all-right l h))
+
+-- ---- of some of a list
+
+module _ {A : Type 0} {P : A → Type 0} (f : A → Bool) where
+  pub all-select : {xs : List A} → All P xs → All P (select f xs)
+  all-select all-nil = all-nil
+  all-select (all-cons {x} {xs} h t) = go (f x) (all-select t)
+    where
+      go : (b : Bool) → All P (select f xs) → All P (keepIf b x (select f xs))
+      go true k = all-cons h k
+      go false k = k
+
+  pub all-takeWhile : {xs : List A} → All P xs → All P (takeWhile f xs)
+  all-takeWhile all-nil = all-nil
+  all-takeWhile (all-cons {x} {xs} h t) = go (f x) (all-takeWhile t)
+    where
+      go : (b : Bool) → All P (takeWhile f xs) → All P (goOnIf b x (takeWhile f xs))
+      go true k = all-cons h k
+      go false k = all-nil
 
 -- ---- over map and flatMap
 

@@ -1,6 +1,6 @@
 -- Laws of numbers in bytes and of overwritten buffers. Assumes nothing.
-use Prim.Native.Nat.{ℕ, _+_, _-_, _*_, _/_, _%_, _≤_, _<_, _^_}
-use native.Mathlib.Nat.{add-zero, add-assoc, div-div-eq-div-mul, mod-eq-of-lt}
+use Prim.Native.Nat.{ℕ, zero, suc, _+_, _-_, _*_, _/_, _%_, _≤_, _<_, _^_}
+use native.Mathlib.Nat.{add-zero, add-assoc, div-div-eq-div-mul, mod-eq-of-lt, not-suc-le-zero, le-of-suc-le-suc}
 use native.Mathlib.Numerals.{add-one}
 use native.Mathlib.Omega.{arith}
 use mathlib.Core.Path.{_≡_, refl, sym, ap, ap₂, _∙_}
@@ -10,6 +10,7 @@ use borrow.Author.Tests.{le-leb, lt-leb, leb-true, leb-false, not-true, not-fals
 use lib.Dec.{leb}
 use lib.ListN.{length, getD, take, drop, length-append, length-take, length-drop, take-append-drop}
 use lib.Seq.{sets, sets-eq, take-at, drop-drop, drop-append-add, getD-append-add, length-take-le, take-suc}
+use Rattle.opcodes.specs.Lists.{All, all-cons}
 use Rattle.opcodes.specs.Bytes.{overwrite, u32At, u32Bytes, u32Record, u32s}
 use Rattle.opcodes.proofs.ListLaws.{getD-tabulate, length-tabulate}
 
@@ -129,12 +130,24 @@ u32At-append : (xs ys : List ℕ) (at : ℕ) → u32At (xs ++ ys) (length xs + a
 unfolding u32At
 u32At-append xs ys at = simp (add-assoc, getD-append-add)
 
-pub u32At-overwrite : (old : List ℕ) (at n : ℕ) → n < 2 ^ 32 → at + 4 ≤ length old → u32At (overwrite old at (u32Bytes n)) at ≡ n
-u32At-overwrite old at n h fits =
+-- value k of a record that was written
+u32At-values : (ns rest : List ℕ) (k : ℕ) → All (λ n. n < 2 ^ 32) ns → k < length ns → u32At (u32Record ns ++ rest) (4 * k) ≡ getD ns k 0
+unfolding u32Record flatMap
+u32At-values [] rest k b h = absurd (not-suc-le-zero h)
+u32At-values (n ∷ ns) rest zero (all-cons b bs) h = rw append-assoc (u32At-front n _ b)
+u32At-values (n ∷ ns) rest (suc k) (all-cons b bs) h =
+    let e : 4 * suc k ≡ length (u32Bytes n) + 4 * k = omega (arith, length-u32Bytes n) in
+    ap₂ u32At (append-assoc (u32Bytes n) (flatMap u32Bytes ns) rest) e ∙ u32At-append (u32Bytes n) (u32Record ns ++ rest) (4 * k) ∙ u32At-values ns rest k bs (le-of-suc-le-suc h)
+
+pub u32At-record : (old : List ℕ) (at : ℕ) (ns : List ℕ) (k : ℕ) → All (λ n. n < 2 ^ 32) ns → k < length ns → at + 4 * length ns ≤ length old
+    → u32At (overwrite old at (u32Record ns)) (at + 4 * k) ≡ getD ns k 0
+u32At-record old at ns k b h fits =
     let front = take at old in
-    let rest = drop (at + length (u32Bytes n)) old in
-    let e : at ≡ length front + 0 = sym (add-zero (length front) ∙ length-take-le at old (omega arith)) in
-    ap₂ u32At (overwrite-fits old at (u32Bytes n) (omega (arith, length-u32Bytes n)) ∙ append-assoc front (u32Bytes n) rest) e ∙ u32At-append front (u32Bytes n ++ rest) 0 ∙ u32At-front n rest h
+    let rest = drop (at + length (u32Record ns)) old in
+    let e : at + 4 * k ≡ length front + 4 * k = omega (arith, length-take-le at old (omega arith)) in
+    ap₂ u32At (overwrite-fits old at (u32Record ns) (omega (arith, length-u32Record ns)) ∙ append-assoc front (u32Record ns) rest) e
+    ∙ u32At-append front (u32Record ns ++ rest) (4 * k)
+    ∙ u32At-values ns rest k b h
 
 -- ---- the test before a write
 

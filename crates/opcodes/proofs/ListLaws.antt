@@ -1,12 +1,14 @@
 -- Laws of the shared lists. Assumes nothing.
-use Prim.Native.Nat.{ℕ, zero, suc, _+_, _<_}
-use native.Mathlib.Nat.{add-zero, zero-add, add-suc, suc-add, not-suc-le-zero, le-of-suc-le-suc}
+use Prim.Native.Nat.{ℕ, zero, suc, _+_, _*_, _<_}
+use native.Mathlib.Nat.{add-zero, zero-add, add-suc, suc-add, mul-zero, mul-suc, not-suc-le-zero, le-of-suc-le-suc}
+use native.Mathlib.Omega.{arith}
 use mathlib.Core.Path.{_≡_, refl, sym, _∙_, ap}
-use mathlib.Core.List.{map}
-use lib.ListN.{length, getD, length-map}
+use mathlib.Core.List.{List, [], _∷_, _++_, map, flatMap}
+use lib.ListN.{length, getD, take, length-append, length-map, List·getD-append}
+use lib.Seq.{getD-append-add}
 use Rattle.opcodes.specs.Lists.{upFrom, tabulate}
 
-length-upFrom : (i n : ℕ) → length (upFrom i n) ≡ n
+pub length-upFrom : (i n : ℕ) → length (upFrom i n) ≡ n
 length-upFrom i zero = refl
 length-upFrom i (suc n) = ap suc (length-upFrom (suc i) n)
 
@@ -21,3 +23,24 @@ length-tabulate f n = length-map (upFrom 0 n) f ∙ length-upFrom 0 n
 
 pub getD-tabulate : {A : Type 0} (f : ℕ → A) (n k : ℕ) (d : A) → k < n → getD (tabulate n f) k d ≡ f k
 getD-tabulate f n k d h = getD-map-upFrom f 0 n k d h ∙ ap f (zero-add k)
+
+-- ---- lists end to end
+
+module _ {A B : Type 0} (f : A → List B) where
+  -- element j of that of entry k, counted over all of them
+  pub getD-flatMap : (xs : List A) (k j : ℕ) (e : A) (d : B) → k < length xs → j < length (f (getD xs k e))
+      → getD (flatMap f xs) (length (flatMap f (take k xs)) + j) d ≡ getD (f (getD xs k e)) j d
+  unfolding flatMap
+  getD-flatMap [] k j e d h l = absurd (not-suc-le-zero h)
+  getD-flatMap (x ∷ xs) zero j e d h l = rw zero-add (List·getD-append (f x) (flatMap f xs) d j l)
+  getD-flatMap (x ∷ xs) (suc k) j e d h l =
+      let n : length (f x ++ flatMap f (take k xs)) + j ≡ length (f x) + (length (flatMap f (take k xs)) + j) = omega (arith, length-append (f x) (flatMap f (take k xs))) in
+      ap (λ (m : ℕ). getD (f x ++ flatMap f xs) m d) n
+      ∙ getD-append-add (f x) (flatMap f xs) (length (flatMap f (take k xs)) + j) d
+      ∙ getD-flatMap xs k j e d (le-of-suc-le-suc h) l
+
+  -- all of one size
+  pub length-flatMap : (m : ℕ) → ((x : A) → length (f x) ≡ m) → (xs : List A) → length (flatMap f xs) ≡ m * length xs
+  unfolding flatMap
+  length-flatMap m size [] = sym (mul-zero m)
+  length-flatMap m size (x ∷ xs) = length-append (f x) (flatMap f xs) ∙ omega (arith, size x, length-flatMap m size xs, mul-suc m (length xs))

@@ -39,6 +39,10 @@ or-right false b t = t
 pub true≢false : {X : Type 0} → true ≡ false → X
 true≢false e = absurd (subst T e tt)
 
+pub or-false : (a b : Bool) → a || b ≡ false → (a ≡ false) × (b ≡ false)
+or-false true b e = true≢false e
+or-false false b e = (refl, e)
+
 -- ---- cases on a test
 
 pub by-cond {ℓ κ} : {A : Type ℓ} (P : A → Type κ) (b : Bool) (x y : A) → (T b → P x) → (T (not b) → P y) → P (cond b x y)

@@ -25,7 +25,7 @@ total (n ∷ ns) = n + total ns
 
 module _ {ℓ} {A : Type ℓ} where
   -- x where a test passes, nothing where it fails
-  abbrev pub only : Bool → A → List A
+  unfoldable pub only : Bool → A → List A
   only true x = x ∷ []
   only false x = []
 

@@ -1,1 +1,4 @@
+pub mod RefusalLaws
+pub mod RoleBufferLaws
 pub mod RoleLaws
+pub mod TableLaws

@@ -47,6 +47,7 @@ bindings-companions pc i zero = all-nil
 bindings-companions pc i (suc n) = all-cons tt (bindings-companions pc (suc i) n)
 
 extra-companion : (b : Bool) (pc : ℕ) → All Companion (only b (SetlistExtra pc))
+unfolding only
 extra-companion true pc = all-cons tt all-nil
 extra-companion false pc = all-nil
 
@@ -87,5 +88,5 @@ next-executable p pc x =
 
 -- a word of these opcodes owns none
 pub owns-none : (p : Proto) (pc : ℕ) (ops : List ℕ) → T (disjoint ops (CLOSURE ∷ [])) → T (disjoint ops (SETLIST ∷ [])) → T (is (wordAt p pc) ops) → owned p pc ≡ 0
-unfolding owned claims bindingCount hasExtra
+unfolding owned claims bindingCount hasExtra only
 owns-none p pc ops c s t = simp (is-not (wordAt p pc) ops (CLOSURE ∷ []) c t, is-not (wordAt p pc) ops (SETLIST ∷ []) s t)

@@ -1,2 +1,5 @@
 pub mod RuleLaws
 pub mod ExecutionLaws
+pub mod WalkLaws
+pub mod ExampleLaws
+pub mod CountLaws

@@ -35,6 +35,7 @@ tells-error : (d : Diagnostic) (ds : List Diagnostic) {X : Type 0} → T (isErro
 tells-error d ds e f = record { clean = λ c. absurd (T-not (isError d) (all-head c) e); none = λ x. absurd (f x) }
 
 tells-only : (b : Bool) (d : Diagnostic) → T (isError d) → Tells (only b d) (T (not b))
+unfolding only
 tells-only true d e = tells-error d [] e (λ x. x)
 tells-only false d e = record { clean = λ c. tt; none = λ x. refl }
 
@@ -111,7 +112,7 @@ tells-target p pc (pos n) = go (ltb n (length (p .code))) refl
         tells-error _ [] tt (λ x. let h : length (p .code) ≤ n = nltb→le n _ (subst (λ (b : Bool). T (not b)) (sym q) tt) in omega (arith, exists p n x))
 
 tells-skip : (p : Proto) (pc w : ℕ) → Tells (skipDiagnostics p pc w) (T (isSkip w) → T (isExecutable (roleAt p (skipTarget pc))))
-unfolding skipDiagnostics
+unfolding skipDiagnostics only
 tells-skip p pc w = go (isSkip w) (isExecutable (roleAt p (skipTarget pc)))
   where
     go : (b r : Bool) → Tells (only (b && not r) (diagnostic pc 6 (pos (skipTarget pc)))) (T b → T r)
@@ -209,7 +210,7 @@ clean-well-formed p t d pc x =
     tells-at p pc x (tells-truncation p pc x .clean (t pc h)) .clean (d pc h)
 
 pub no-truncation : (p : Proto) → WellFormed p → (pc : ℕ) → truncationAt p pc ≡ []
-unfolding WellFormed truncationAt
+unfolding WellFormed truncationAt only
 no-truncation p k pc =
     none-elsewhere p pc
     (λ b. only (b && isTruncated p pc) (cond (is (wordAt p pc) (CLOSURE ∷ [])) (diagnostic pc 1 (pos (owned p pc))) (diagnostic pc 2 (pos 0)))) refl

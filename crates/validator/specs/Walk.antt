@@ -14,6 +14,9 @@ pub record RowDiagnostic : Type 0 where
   pub row : ℕ
   pub diagnostic : Diagnostic
 
+abbrev pub inRow : ℕ → Diagnostic → RowDiagnostic
+inRow row d = record { row = row; diagnostic = d }
+
 -- the N at which a test ends the walk
 abbrev pub MAX-DIAGNOSTICS : ℕ
 MAX-DIAGNOSTICS = 10000
@@ -27,7 +30,7 @@ abbrev pub start : Walk
 start = record { found = []; ended = false }
 
 -- "N is incoming warnings plus errors plus findings so far"
-unfoldable pub countN : ℕ → Walk → ℕ
+abbrev pub countN : ℕ → Walk → ℕ
 countN incoming v = incoming + length (v .found)
 
 -- one step: "Where N is 10,000 or more .. the walk ends"; else the step's diagnostics are added
@@ -35,7 +38,7 @@ unfoldable pub advance : ℕ → ℕ → Walk → Step → Walk
 advance incoming row v s =
     cond (v .ended || s .tested && leb MAX-DIAGNOSTICS (countN incoming v))
     (record { found = v .found; ended = true })
-    (record { found = v .found ++ map (λ d. record { row = row; diagnostic = d }) (s .adds); ended = false })
+    (record { found = v .found ++ map (inRow row) (s .adds); ended = false })
 
 -- the steps of a row
 unfoldable pub walkRow : ℕ → ℕ → Walk → List Step → Walk

@@ -1,0 +1,25 @@
+-- Words that the theorems of proofs/Theorems use beside document 01's definitions. Assumes nothing: these are definitions.
+use Prim.Native.Nat.{ℕ}
+use mathlib.Core.Path.{_≡_}
+use mathlib.Core.Logic.{_≢_}
+use mathlib.Core.List.{List}
+use mathlib.Core.Option.{none}
+use lib.Dec.{ltb}
+use lib.ListN.{length}
+use Rattle.opcodes.specs.Lists.{select}
+use Rattle.roles.specs.Table.{Proto}
+use Rattle.roles.specs.Refusals.{imageRefusal}
+use Rattle.validator.specs.Walk.{RowDiagnostic}
+use Rattle.validator.specs.Image.{Image}
+
+-- an image that no refusal from 1 to 6 meets
+unfoldable pub Accepted : Image → Type 0
+Accepted i = imageRefusal (i .table) (i .words) ≡ none
+
+-- how many prototypes have a stack above 250: each adds a warning
+unfoldable pub largeStacks : List Proto → ℕ
+largeStacks ps = length (select (λ p. ltb 250 (p .stack)) ps)
+
+-- a diagnostic that is an error: other than code 3
+abbrev pub IsError : RowDiagnostic → Type 0
+IsError d = d .diagnostic .code ≢ 3

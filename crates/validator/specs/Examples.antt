@@ -1,0 +1,87 @@
+-- The worked examples (document 01, "Boards on the shelf"), all cases of P1 to P13, and the four misreadings below them, in one table.
+-- proofs/ExampleLaws proves it. Assumes nothing: these are definitions.
+use Prim.Native.Nat.{ℕ}
+use mathlib.Core.List.{List, [], _∷_, _++_, flatMap}
+use lib.IntN.{ℤ, pos, negsuc}
+use Rattle.opcodes.specs.Bytes.{u32Record}
+use Rattle.roles.specs.Bindings.{bindingFields}
+use Rattle.roles.specs.Calls.{imageBindings}
+use Rattle.validator.specs.Walk.{Verdict, ValidForParser, Incomplete, Invalid, diagnosticFields}
+use Rattle.validator.specs.Image.{Image, diagnostics, verdict}
+
+-- what is said of an image: the fields of its diagnostics and of its bindings, and the verdict
+pub record Result : Type 0 where
+  pub diagnostics : List ℤ
+  pub bindings : List ℤ
+  pub verdict : Verdict
+
+unfoldable pub result : Image → Result
+result i =
+    record {
+      diagnostics = flatMap diagnosticFields (diagnostics i);
+      bindings = flatMap bindingFields (imageBindings (i .table) (i .words));
+      verdict = verdict i;
+    }
+
+pub record Example : Type 0 where
+  pub image : Image
+  pub expected : Result
+
+-- an image by its rows, depth, words, constants, upvalues and stack each, its words, and what came in; and the diagnostics, bindings and verdict of it
+abbrev example : List ℕ → List ℕ → ℕ → ℕ → List ℤ → List ℤ → Verdict → Example
+example rows words warnings errors found bound v =
+    record {
+      image = record { table = u32Record rows; words = u32Record words; warnings = warnings; errors = errors };
+      expected = record { diagnostics = found; bindings = bound; verdict = v };
+    }
+
+-- "One part, 0 constants", of one word, and of none
+abbrev word : ℕ → ℕ → List ℤ → Verdict → Example
+word w stack found v = example (0 ∷ 1 ∷ 0 ∷ 0 ∷ stack ∷ []) (w ∷ []) 0 0 found [] v
+
+abbrev empty : ℕ → ℕ → ℕ → List ℤ → Verdict → Example
+empty stack warnings errors found v = example (0 ∷ 0 ∷ 0 ∷ 0 ∷ stack ∷ []) [] warnings errors found [] v
+
+-- so many words before a "child of" so many "upvalues holding 0x0080001e"; stack 2
+abbrev parent : ℕ → List ℕ → ℕ → List ℤ → List ℤ → Example
+parent n words upvalues found bound =
+    example (0 ∷ n ∷ 0 ∷ 0 ∷ 2 ∷ 1 ∷ 1 ∷ 0 ∷ upvalues ∷ 2 ∷ []) (words ++ 0x0080001e ∷ []) 0 0 found bound Invalid
+
+-- a diagnostic of row 0
+abbrev at : ℕ → ℕ → ℤ → List ℤ
+at pc code value = pos 0 ∷ pos pc ∷ pos code ∷ value ∷ []
+
+unfoldable pub examples : List Example
+examples =
+    -- P1 to P5
+    word 0x7fff8016 2 [] ValidForParser
+    ∷ word 0x7fff4016 2 (at 0 5 (negsuc 0)) Invalid
+    ∷ word 0x7fffc016 2 (at 0 5 (pos 1)) Invalid
+    ∷ word 0x0000003f 2 (at 0 4 (pos 63)) Invalid
+    ∷ word 0x00000097 1 (at 0 9 (pos 2)) Invalid
+    -- P6, P7, P8 twice, P9
+    ∷ word 0x00800022 2 (at 0 2 (pos 0)) Invalid
+    ∷ word 0x00800022 1 (at 0 2 (pos 0) ++ at 0 11 (pos 1)) Invalid
+    ∷ word 0x0080001e 0 (at 0 10 (pos 0)) Invalid
+    ∷ word 0x0080001e 1 [] ValidForParser
+    ∷ word 0x0100c01c 1 (at 0 11 (pos 1) ++ at 0 11 (pos 1)) Invalid
+    -- P10, P11
+    ∷ parent 2 (0x00000024 ∷ 0x96000000 ∷ []) 1 (at 1 12 (pos 300)) (pos 1 ∷ pos 44 ∷ pos 1 ∷ [])
+    ∷ parent 1 (0x00000024 ∷ []) 1 (at 0 1 (pos 1)) (pos 0 ∷ pos 0 ∷ negsuc 0 ∷ [])
+    -- P12 twice, P13 twice: the document gives P13 no words, and the error comes with the warnings
+    ∷ empty 251 0 0 (pos 0 ∷ negsuc 0 ∷ pos 3 ∷ pos 251 ∷ []) ValidForParser
+    ∷ empty 250 0 0 [] ValidForParser
+    ∷ empty 2 10000 0 [] Incomplete
+    ∷ empty 2 10000 1 [] Invalid
+    -- "a companion that looks like CLOSURE owning words": it owns none, so that the word after it, a RETURN of register 2, is executable.
+    -- The companion is a CLOSURE's, then a SETLIST's
+    ∷ parent 3 (0x00000024 ∷ 0x00000024 ∷ 0x0080009e ∷ []) 1 (at 1 17 (pos 36) ++ at 2 10 (pos 2)) (pos 0 ∷ pos 0 ∷ negsuc 0 ∷ [])
+    ∷ parent 3 (0x00800022 ∷ 0x00000024 ∷ 0x0080009e ∷ []) 1 (at 2 10 (pos 2)) (pos 0 ∷ pos 0 ∷ negsuc 0 ∷ [])
+    -- "a truncated CLOSURE leaving its existing companions unmarked": the one that exists is judged as a binding word, and binds
+    ∷ parent 2 (0x00000024 ∷ 0x0000003f ∷ []) 2 (at 0 1 (pos 2) ++ at 1 17 (negsuc 0)) (pos 0 ∷ pos 0 ∷ negsuc 0 ∷ pos 0 ∷ pos 0 ∷ negsuc 0 ∷ [])
+    ∷ parent 2 (0x00000024 ∷ 0x00000000 ∷ []) 2 (at 0 1 (pos 2)) (pos 1 ∷ pos 0 ∷ pos 1 ∷ pos 0 ∷ pos 0 ∷ negsuc 0 ∷ [])
+    -- "10,000 as a cut inside a word's findings": N is 9,999 before a word with two diagnostics, and 10,001 after it
+    ∷ example (0 ∷ 1 ∷ 0 ∷ 0 ∷ 1 ∷ []) (0x0100c01c ∷ []) 9999 0 (at 0 11 (pos 1) ++ at 0 11 (pos 1)) [] Invalid
+    -- "binding index clamped rather than reduced": P10, and 511 as 255
+    ∷ parent 2 (0x00000024 ∷ 0xff800000 ∷ []) 1 (at 1 12 (pos 511)) (pos 1 ∷ pos 255 ∷ pos 1 ∷ [])
+    ∷ []

@@ -1,0 +1,45 @@
+//! The fixed list of images, by families.
+mod boundaries;
+mod closures;
+mod large;
+mod limit;
+mod opcodes;
+mod random;
+mod refused;
+mod setlist;
+mod shapes;
+mod targets;
+mod valid;
+pub mod worked;
+
+use crate::calls::Calls;
+use crate::image::Image;
+use crate::list::List;
+
+/// Seed of the fixed list.
+pub const SEED: u64 = 51;
+
+/// Hands on the small images: below 12 rows and 40 words each.
+pub fn small(seed: u64, visit: &mut dyn FnMut(&Image, &Calls)) {
+    let mut checked = |image: &Image, calls: &Calls| {
+        assert!(image.is_small(), "{} is not small", image.label);
+        visit(image, calls);
+    };
+    let mut list = List::new(seed, &mut checked);
+    worked::add(&mut list);
+    opcodes::add(&mut list);
+    targets::add(&mut list);
+    closures::add(&mut list);
+    setlist::add(&mut list);
+    shapes::add(&mut list);
+    limit::add(&mut list);
+    boundaries::add(&mut list);
+    refused::add(&mut list);
+    valid::add(&mut list);
+    random::add(&mut list);
+}
+
+/// Hands on the large images.
+pub fn large(seed: u64, visit: &mut dyn FnMut(&Image, &Calls)) {
+    large::add(&mut List::new(seed, visit));
+}

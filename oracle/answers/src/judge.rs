@@ -1,0 +1,148 @@
+//! luad's own answer for an image: encoded as a binary chunk, decoded and validated by the published files.
+use crate::chunk;
+use crate::image::{rows, Image};
+use crate::message::{code_number, value};
+use luad::chunk::decode_chunk_lua51_with_profile;
+use luad::diagnostic::{Diagnostic, DiagnosticCategory, Verdict};
+use luad::header::Lua51Profile;
+use luad::id::{ProtoPath, StableId};
+use luad::limits::{ParseMode, ResourceLimits};
+use luad::model::{Chunk, Prototype, UpvalueDesc};
+use luad::reader::SafeReader;
+use luad::roles::{discover_roles_lua51, Lua51PhysicalRole, Lua51RoleFault};
+use std::collections::HashMap;
+
+/// Incoming diagnostics of one severity that luad is given at most. This many alone reach the limit, and luad then
+/// looks only at whether there is an error among them, so a larger number gives the same answer.
+const MOST_INCOMING: u32 = 10_000;
+
+/// What luad says of an image.
+#[derive(Debug, Clone, PartialEq, Eq)]
+pub struct Answer {
+    pub verdict: Verdict,
+    /// Owner pc and upvalue index of each word.
+    pub roles: Vec<[i32; 2]>,
+    /// instack, idx and descriptor pc of each upvalue of each row.
+    pub bindings: Vec<[i32; 3]>,
+    /// Row, pc, code and value.
+    pub diagnostics: Vec<[i32; 4]>,
+}
+
+/// Limits that no accepted image reaches.
+fn limits() -> ResourceLimits {
+    let most = usize::MAX;
+    ResourceLimits {
+        max_input_bytes: most,
+        max_nesting_depth: most,
+        max_total_prototypes: most,
+        max_instructions_per_proto: most,
+        max_total_instructions: most,
+        max_constants_per_proto: most,
+        max_upvalues_per_proto: most,
+        max_string_bytes: most,
+        max_diagnostics: most,
+    }
+}
+
+/// Puts incoming diagnostics into the reader, from where `decode_chunk_lua51_with_profile` takes them as the chunk's
+/// diagnostics before its validation. Gives their number.
+fn record_incoming(reader: &mut SafeReader, warnings: u32, errors: u32) -> usize {
+    for _ in 0..warnings.min(MOST_INCOMING) {
+        let category = DiagnosticCategory::Parse;
+        let warning = Diagnostic::warning("INCOMING", category, StableId::Chunk, String::new());
+        reader.record_diagnostic(warning).expect("a warning is only recorded");
+    }
+    for _ in 0..errors.min(MOST_INCOMING) {
+        let error = Diagnostic::error("INCOMING", DiagnosticCategory::Parse, StableId::Chunk, String::new());
+        // Strict mode records an error and then hands it back; the decoding is begun all the same.
+        reader.record_diagnostic(error).expect_err("an error is recorded and handed back");
+    }
+    reader.diagnostics().len()
+}
+
+/// The decoded prototypes in preorder, each with its parent.
+fn preorder(main: &Prototype) -> Vec<(&Prototype, Option<&Prototype>)> {
+    let mut found = Vec::new();
+    let mut open = vec![(main, None)];
+    while let Some((proto, parent)) = open.pop() {
+        found.push((proto, parent));
+        open.extend(proto.protos.iter().rev().map(|child| (child, Some(proto))));
+    }
+    found
+}
+
+/// The two numbers of a role.
+fn role(role: Lua51PhysicalRole) -> [i32; 2] {
+    match role {
+        Lua51PhysicalRole::Instruction => [-1, -1],
+        Lua51PhysicalRole::ClosureBinding { owner_pc, upvalue_index } => [owner_pc as i32, upvalue_index as i32],
+        Lua51PhysicalRole::SetlistExtra { owner_pc } => [owner_pc as i32, -1],
+    }
+}
+
+/// The three numbers of a binding. luad keeps the descriptor's source location; its pc is that of the parent's word
+/// at this location, and -1 where the upvalue still has the location of its own prototype.
+fn binding(upvalue: &UpvalueDesc, parent: Option<&Prototype>) -> [i32; 3] {
+    let code = parent.map_or(&[][..], |parent| &parent.instructions);
+    let pc = code.binary_search_by_key(&upvalue.source.offset, |word| word.source.offset);
+    [i32::from(upvalue.instack), i32::from(upvalue.idx), pc.map_or(-1, |pc| pc as i32)]
+}
+
+/// The value of code 1, which luad's message does not carry: what luad's role map declares for the CLOSURE.
+fn declared_upvalues(proto: &Prototype, pc: i32) -> i32 {
+    let declared = |fault: &Lua51RoleFault| match fault {
+        Lua51RoleFault::TruncatedClosure { owner_pc, declared, .. } if *owner_pc as i32 == pc => Some(*declared),
+        _ => None,
+    };
+    discover_roles_lua51(proto).faults.iter().find_map(declared).expect("a truncated CLOSURE") as i32
+}
+
+/// The four numbers of a diagnostic.
+fn record(
+    diagnostic: &Diagnostic,
+    protos: &[(&Prototype, Option<&Prototype>)],
+    row_of: &HashMap<ProtoPath, usize>,
+) -> [i32; 4] {
+    let (path, pc) = match &diagnostic.target {
+        StableId::Proto(path) => (path, -1),
+        StableId::Instruction(path, pc) => (path, *pc as i32),
+        other => panic!("a diagnostic about {other:?}"),
+    };
+    let row = row_of[path];
+    let code = code_number(diagnostic.code);
+    let value = match code {
+        1 => declared_upvalues(protos[row].0, pc),
+        2 => 0, // luad's message carries no value; document 01 gives 0
+        _ => value(code, &diagnostic.message),
+    };
+    [row as i32, pc, code, value]
+}
+
+/// The diagnostics that the validation added: without the incoming ones and the line on the limit.
+fn added(chunk: &Chunk, incoming: usize) -> &[Diagnostic] {
+    let added = &chunk.diagnostics[incoming..];
+    match added.last() {
+        Some(last) if last.code == "CORE-LIMIT-003" => &added[..added.len() - 1],
+        _ => added,
+    }
+}
+
+/// luad's answer for an image that has none of the refusals 1 to 6.
+pub fn judge(image: &Image) -> Answer {
+    let table = rows(&image.protos);
+    let bytes = chunk::encode(&table, &image.words);
+    let mut reader = SafeReader::with_options(&bytes, 0, limits(), ParseMode::Strict);
+    let incoming = record_incoming(&mut reader, image.warnings, image.errors);
+    let chunk = decode_chunk_lua51_with_profile(&mut reader, Lua51Profile::Stock).expect("a chunk that decodes");
+    let protos = preorder(&chunk.main_proto);
+    assert_eq!(protos.len(), table.len());
+    let row_of: HashMap<ProtoPath, usize> =
+        protos.iter().enumerate().map(|(row, (proto, _))| (proto.path.clone(), row)).collect();
+    let roles = protos.iter().flat_map(|(proto, _)| discover_roles_lua51(proto).roles).map(role).collect();
+    let bindings = protos
+        .iter()
+        .flat_map(|(proto, parent)| proto.upvalues.iter().map(|upvalue| binding(upvalue, *parent)))
+        .collect();
+    let diagnostics = added(&chunk, incoming).iter().map(|diagnostic| record(diagnostic, &protos, &row_of)).collect();
+    Answer { verdict: chunk.verdict, roles, bindings, diagnostics }
+}

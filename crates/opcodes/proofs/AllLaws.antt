@@ -5,7 +5,7 @@ use native.Mathlib.Omega.{arith}
 use mathlib.Core.Path.{_≡_, refl, sym, _∙_, ap₂, subst}
 use mathlib.Core.List.{List, [], _∷_, _++_, map, flatMap, flatten}
 use mathlib.Core.Bool.{Bool, true, false}
-use lib.ListN.{getD}
+use lib.ListN.{length, getD, drop}
 use Rattle.opcodes.specs.Lists.{All, all-nil, all-cons, upFrom, select, keepIf, takeWhile, goOnIf}
 
 module _ {A : Type 0} {P : A → Type 0} where
@@ -21,17 +21,26 @@ module _ {A : Type 0} {P : A → Type 0} where
   all-right [] h = h
   all-right (x ∷ xs) (all-cons h t) = all-right xs t
 
+  pub all-drop : (n : ℕ) {xs : List A} → All P xs → All P (drop n xs)
+  all-drop zero h = h
+  all-drop (suc n) all-nil = all-nil
+  all-drop (suc n) (all-cons h t) = all-drop n t
+
+  pub all-getD : {xs : List A} (k : ℕ) (d : A) → P d → All P xs → P (getD xs k d)
+  all-getD k d e all-nil = e
+  all-getD zero d e (all-cons h t) = h
+  all-getD (suc k) d e (all-cons h t) = all-getD k d e t
+
+  pub all-at : {xs : List A} (k : ℕ) (d : A) → k < length xs → All P xs → P (getD xs k d)
+  all-at k d l all-nil = absurd (not-suc-le-zero l)
+  all-at zero d l (all-cons h t) = h
+  all-at (suc k) d l (all-cons h t) = all-at k d (le-of-suc-le-suc l) t
+
   pub all-head : {x : A} {xs : List A} → All P (x ∷ xs) → P x
   all-head (all-cons h t) = h
 
   pub all-tail : {x : A} {xs : List A} → All P (x ∷ xs) → All P xs
   all-tail (all-cons h t) = t
-
--- an element, and the one that stands for a missing element
-pub element-most : {xs : List ℕ} (limit k : ℕ) → All (λ n. n ≤ limit) xs → getD xs k 0 ≤ limit
-element-most limit k all-nil = omega arith
-element-most limit zero (all-cons h hs) = h
-element-most limit (suc k) (all-cons h hs) = element-most limit k hs
 
 -- ---- lists end to end
 

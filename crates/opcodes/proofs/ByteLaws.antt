@@ -9,7 +9,7 @@ use mathlib.Core.List.{List, [], _∷_, _++_, append-assoc, append-nil, flatMap}
 use borrow.Author.Tests.{le-leb, lt-leb, leb-true, leb-false, not-true, not-false}
 use lib.Dec.{leb}
 use lib.ListN.{length, getD, take, drop, length-append, length-take, length-drop, take-append-drop}
-use lib.Seq.{sets, sets-eq, take-at, drop-drop, drop-append-add, getD-append-add, length-take-le, take-suc}
+use lib.Seq.{sets, sets-eq, take-at, drop-drop, drop-append-add, getD-append-add, length-take-le, take-suc, ext-getD}
 use Rattle.opcodes.specs.Lists.{All, all-cons}
 use Rattle.opcodes.specs.Bytes.{overwrite, u32At, u32Bytes, u32Record, u32s}
 use Rattle.opcodes.proofs.ListLaws.{getD-tabulate, length-tabulate}
@@ -148,6 +148,15 @@ u32At-record old at ns k b h fits =
     ap₂ u32At (overwrite-fits old at (u32Record ns) (omega (arith, length-u32Record ns)) ∙ append-assoc front (u32Record ns) rest) e
     ∙ u32At-append front (u32Record ns ++ rest) (4 * k)
     ∙ u32At-values ns rest k b h
+
+-- the u32 of a record are its values
+pub u32s-record : (ns : List ℕ) → All (λ n. n < 2 ^ 32) ns → u32s (u32Record ns) ≡ ns
+u32s-record ns b =
+    let count : length (u32Record ns) / 4 ≡ length ns = omega (arith, length-u32Record ns) in
+    ext-getD 0 (u32s (u32Record ns)) ns (length-u32s (u32Record ns) ∙ count)
+    (λ k h.
+    let there : k < length (u32Record ns) / 4 = omega (arith, length-u32s (u32Record ns)) in
+    getD-u32s (u32Record ns) k there ∙ ap (λ (l : List ℕ). u32At l (4 * k)) (sym (append-nil (u32Record ns))) ∙ u32At-values ns [] k b (omega arith))
 
 -- ---- the test before a write
 

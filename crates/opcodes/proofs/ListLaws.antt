@@ -39,6 +39,14 @@ module _ {A B : Type 0} (f : A → List B) where
       ∙ getD-append-add (f x) (flatMap f xs) (length (flatMap f (take k xs)) + j) d
       ∙ getD-flatMap xs k j e d (le-of-suc-le-suc h) l
 
+  -- it is one of them
+  pub flatMap-index : (xs : List A) (k j : ℕ) (e : A) → k < length xs → j < length (f (getD xs k e)) → length (flatMap f (take k xs)) + j < length (flatMap f xs)
+  unfolding flatMap
+  flatMap-index [] k j e h l = absurd (not-suc-le-zero h)
+  flatMap-index (x ∷ xs) zero j e h l = omega (arith, length-append (f x) (flatMap f xs))
+  flatMap-index (x ∷ xs) (suc k) j e h l =
+      omega (arith, length-append (f x) (flatMap f (take k xs)), length-append (f x) (flatMap f xs), flatMap-index xs k j e (le-of-suc-le-suc h) l)
+
   -- all of one size
   pub length-flatMap : (m : ℕ) → ((x : A) → length (f x) ≡ m) → (xs : List A) → length (flatMap f xs) ≡ m * length xs
   unfolding flatMap

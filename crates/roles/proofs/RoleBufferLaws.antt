@@ -10,16 +10,18 @@ use lib.Dec.{T}
 use lib.ListN.{length, getD, take, drop, length-append, length-map, length-take, length-drop, List·getD-map}
 use lib.IntN.{ℤ, pos, negsuc}
 use Rattle.opcodes.specs.Lists.{All, all-nil, all-cons, only, upFrom, total}
-use Rattle.opcodes.specs.Bytes.{i32Bits, i32Record, u32Record, u32At, overwrite}
-use Rattle.roles.specs.Table.{Row, Proto, protoOf, protosOf}
+use Rattle.opcodes.specs.Bytes.{i32Bits, i32Record, u32Record, u32At, u32s, overwrite}
+use Rattle.roles.specs.Table.{Row, rows, Proto, protoOf, protosOf, protos}
 use Rattle.roles.specs.Roles.{Role, Instruction, ClosureBinding, SetlistExtra, isExecutable, bindingCount, hasExtra, claims, rolesFrom, roles, roleAt, roleFields, roleRecords}
 use Rattle.roles.specs.Refusals.{wordTotal}
 use Rattle.opcodes.specs.Words.{is, fieldBx, CLOSURE}
 use Rattle.opcodes.proofs.TestLaws.{by-cond}
-use Rattle.opcodes.proofs.AllLaws.{element-most, all-append, all-map, all-flatMap, all-imp, all-left}
-use lib.Seq.{length-take-le}
-use Rattle.opcodes.proofs.ListLaws.{getD-flatMap, length-flatMap}
-use Rattle.opcodes.proofs.ByteLaws.{u32At-record}
+use Rattle.opcodes.proofs.AllLaws.{all-getD, all-at, all-append, all-map, all-flatMap, all-imp, all-left}
+use lib.Seq.{length-take-le, take-all, take-length}
+use Rattle.opcodes.proofs.ListLaws.{getD-flatMap, flatMap-index, length-flatMap}
+use Rattle.roles.proofs.RefusalLaws.{ImageKept}
+use Rattle.roles.proofs.TableLaws.{children-most, length-protosOf}
+use Rattle.opcodes.proofs.ByteLaws.{length-u32s, u32At-record}
 
 -- ---- a role for each word
 
@@ -52,6 +54,10 @@ pub role-at : (ps : List Proto) (k pc : ℕ) (p : Proto) → k < length ps → p
     → getD (flatMap roles ps) (wordsBefore ps k + pc) Instruction ≡ roleAt (getD ps k p) pc
 unfolding wordsBefore roleAt
 role-at ps k pc p h l = getD-flatMap roles ps k pc p Instruction h (omega (arith, length-roles (getD ps k p)))
+
+index-below : (ps : List Proto) (k pc : ℕ) (p : Proto) → k < length ps → pc < length (getD ps k p .code) → wordsBefore ps k + pc < length (flatMap roles ps)
+unfolding wordsBefore
+index-below ps k pc p h l = flatMap-index roles ps k pc p h (omega (arith, length-roles (getD ps k p)))
 
 -- ---- its record
 
@@ -98,7 +104,7 @@ extra-below n pc false h = all-nil
 
 binding-count-most : (n : ℕ) (p : Proto) (w : ℕ) → All (λ k. k ≤ n) (p .children) → bindingCount p w ≤ n
 unfolding bindingCount
-binding-count-most n p w h = by-cond (λ (k : ℕ). k ≤ n) (is w (CLOSURE ∷ [])) _ _ (λ _. element-most n (fieldBx w) h) (λ _. omega arith)
+binding-count-most n p w h = by-cond (λ (k : ℕ). k ≤ n) (is w (CLOSURE ∷ [])) _ _ (λ _. all-getD (fieldBx w) 0 (omega arith) h) (λ _. omega arith)
 
 roles-below : (n : ℕ) (p : Proto) → All (λ k. k ≤ n) (p .children) → (pc : ℕ) (claimed : List Role) (ws : List ℕ) → All (RoleBelow n) claimed → pc + length ws ≤ n
     → All (RoleBelow n) (rolesFrom p pc claimed ws)
@@ -128,3 +134,74 @@ field-small (SetlistExtra owner) h = all-cons {x = pos owner} (omega arith) (all
 pub records-small : (ps : List Proto) → All (Limited (2 ^ 31)) ps → All Small (roleRecords ps)
 unfolding roleRecords
 records-small ps h = all-flatMap Small roleFields (all-imp field-small (all-flatMap (RoleBelow (2 ^ 31)) roles (all-imp (proto-roles-below (2 ^ 31)) h)))
+
+-- "-1 -1 for executable": the first field tells
+pub executable-by-field : (r : Role) → RoleBelow (2 ^ 31) r → (i32Bits (getD (roleFields r) 0 (pos 0)) ≡ 4294967295) ↔ T (isExecutable r)
+unfolding roleFields i32Bits
+executable-by-field Instruction h = (λ _. tt, λ _. refl)
+executable-by-field (ClosureBinding owner index) h = (λ e. absurd (omega (arith, h .0)), λ t. absurd t)
+executable-by-field (SetlistExtra owner) h = (λ e. absurd (omega arith), λ t. absurd t)
+
+-- ---- an accepted image
+
+words-most : (n : ℕ) (rs : List Row) (words : List ℕ) → length words ≤ n → All (λ (p : Proto). length (p .code) ≤ n) (protosOf rs words)
+unfolding protosOf protoOf
+words-most n [] words h = all-nil
+words-most n (r ∷ rs) words h =
+    all-cons {x = protoOf r rs words} (omega (arith, length-take (r .words) words)) (words-most n rs (drop (r .words) words) (omega (arith, length-drop (r .words) words)))
+
+limited-both : (n : ℕ) {ps : List Proto} → All (λ (p : Proto). length (p .code) ≤ n) ps → All (λ (p : Proto). All (λ k. k ≤ n) (p .children)) ps → All (Limited n) ps
+limited-both n all-nil all-nil = all-nil
+limited-both n (all-cons h hs) (all-cons k ks) = all-cons (record { words = h; children = k }) (limited-both n hs ks)
+
+module _ (table words : List ℕ) (kept : ImageKept table words) where
+  limited : All (Limited (2 ^ 31)) (protos table words)
+  unfolding protos
+  limited =
+      limited-both (2 ^ 31) (words-most (2 ^ 31) (rows table) (u32s words) (omega (arith, length-u32s words, kept .word-limit)))
+      (children-most (2 ^ 31) (rows table) (u32s words) (all-imp (λ r h. omega (arith, h .upvalues)) (kept .fields)))
+
+  length-protos : length (protos table words) ≡ length (rows table)
+  unfolding protos
+  length-protos = length-protosOf (rows table) (u32s words)
+
+  enough : wordTotal (rows table) ≤ length (u32s words)
+  enough = omega (arith, length-u32s words, kept .word-count)
+
+  -- the words of all prototypes are those that the rows state
+  pub length-all-roles : length (flatMap roles (protos table words)) ≡ wordTotal (rows table)
+  unfolding protos wordsBefore
+  length-all-roles =
+      let ps = protosOf (rows table) (u32s words) in
+      ap (λ (l : List Proto). length (flatMap roles l)) (sym (take-all (length (rows table)) ps (omega (arith, length-protosOf (rows table) (u32s words)))))
+      ∙ words-before (rows table) (u32s words) (length (rows table)) enough
+      ∙ ap wordTotal (take-length (rows table))
+
+  -- the word at pc of prototype i: both fields of its record, read from a buffer that the roles were written to
+  pub role-in-buffer : (old : List ℕ) (i pc j : ℕ) (p : Proto) → 8 * wordTotal (rows table) ≤ length old → i < length (rows table) → pc < length (getD (protos table words) i p .code) → j < 2
+      → u32At (overwrite old 0 (i32Record (roleRecords (protos table words)))) (8 * (wordTotal (take i (rows table)) + pc) + 4 * j)
+      ≡ i32Bits (getD (roleFields (roleAt (getD (protos table words) i p) pc)) j (pos 0))
+  unfolding protos
+  role-in-buffer old i pc j p fits h l m =
+      let ps = protosOf (rows table) (u32s words) in
+      let k = wordsBefore ps i + pc in
+      let there : i < length ps = omega (arith, length-protosOf (rows table) (u32s words)) in
+      let first : wordTotal (take i (rows table)) ≡ wordsBefore ps i = sym (words-before (rows table) (u32s words) i enough) in
+      ap (λ (n : ℕ). u32At (overwrite old 0 (i32Record (roleRecords ps))) (8 * (n + pc) + 4 * j)) first
+      ∙ role-field ps old k j (records-small ps limited) (index-below ps i pc p there l) m (omega (arith, length-all-roles))
+      ∙ ap (λ (r : Role). i32Bits (getD (roleFields r) j (pos 0))) (role-at ps i pc p there l)
+
+  -- so a word is executable exactly where the first field is -1
+  pub executable-in-buffer : (old : List ℕ) (i pc : ℕ) (p : Proto) → 8 * wordTotal (rows table) ≤ length old → i < length (rows table) → pc < length (getD (protos table words) i p .code)
+      → (u32At (overwrite old 0 (i32Record (roleRecords (protos table words)))) (8 * (wordTotal (take i (rows table)) + pc)) ≡ 4294967295) ↔ T (isExecutable (roleAt (getD (protos table words) i p) pc))
+  unfolding roleAt
+  executable-in-buffer old i pc p fits h l =
+      let ps = protos table words in
+      let q = getD ps i p in
+      let k = wordTotal (take i (rows table)) + pc in
+      let there : i < length ps = omega (arith, length-protos) in
+      let small : RoleBelow (2 ^ 31) (roleAt q pc) = all-getD pc Instruction tt (proto-roles-below (2 ^ 31) q (all-at i p there limited)) in
+      let e : u32At (overwrite old 0 (i32Record (roleRecords ps))) (8 * k) ≡ i32Bits (getD (roleFields (roleAt q pc)) 0 (pos 0)) =
+      ap (λ (n : ℕ). u32At (overwrite old 0 (i32Record (roleRecords ps))) n) (omega arith) ∙ role-in-buffer old i pc 0 p fits h l (omega arith) in
+      let x = executable-by-field (roleAt q pc) small in
+      (λ f. x .0 (sym e ∙ f), λ t. e ∙ x .1 t)

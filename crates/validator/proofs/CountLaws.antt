@@ -11,12 +11,17 @@ use lib.IntN.{ℤ, pos, negsuc}
 use borrow.Author.Tests.{leb-true, leb-false, lt-leb}
 use Rattle.opcodes.specs.Lists.{All, all-nil, all-cons, only, upFrom, select, keepIf}
 use Rattle.opcodes.specs.Words.{is, opcode, operand, fieldA, fieldBx, B, C, withSBx, withoutA, MOVE, GETUPVAL, LOADK, GETGLOBAL, SETGLOBAL, SETUPVAL, LOADBOOL, SELF, EQ, LT, LE, TEST, TESTSET, CALL, TAILCALL, RETURN, FORLOOP, FORPREP, TFORLOOP, SETLIST, CLOSURE, VARARG}
-use Rattle.roles.specs.Table.{Proto}
+use Rattle.opcodes.specs.Bytes.{u32s}
+use Rattle.roles.specs.Table.{rows, Proto, protos}
+use Rattle.roles.proofs.RefusalLaws.{image-kept}
+use Rattle.roles.proofs.TableLaws.{children-most}
 use Rattle.roles.specs.Roles.{isExecutable, roleAt, executableAt, wordAt, bindingCount, existing, isTruncated, bindingWords}
 use Rattle.validator.specs.Operands.{isJump, target, isSkip, isLoadboolSkip, skipTarget, constantBx, upvalueB, flagA, registerA, spanEnds, registerIn, constantIn, childBx, capturedRegister, capturedUpvalue}
 use Rattle.validator.specs.Diagnostics.{Diagnostic, diagnostic, isUnknown, opcodeValue, notBelow, truncationAt, stackDiagnostics, targetDiagnostics, jumpDiagnostics, skipDiagnostics, bindingDiagnostics, operandDiagnostics, knownDiagnostics, wordDiagnostics, diagnosticsAt, Step, testedStep, untestedStep, protoSteps}
 use Rattle.validator.specs.Walk.{RowDiagnostic, inRow, Walk, MAX-DIAGNOSTICS, countN, start, advance, walkRow, walkFrom, walk}
-use Rattle.opcodes.proofs.AllLaws.{element-most}
+use Rattle.validator.specs.Image.{Image, imageProtos, imageWalk, diagnostics}
+use Rattle.validator.specs.Claims.{Accepted}
+use Rattle.opcodes.proofs.AllLaws.{all-getD, all-imp}
 use Rattle.opcodes.proofs.ListLaws.{length-upFrom}
 use Rattle.opcodes.proofs.TestLaws.{is-not, is-among, true≢false, or-false, T-true, T-false, by-cond, disjoint}
 
@@ -165,7 +170,7 @@ child-most p pc w t h = rw (T-true (is w (CLOSURE ∷ [])) t) (go (leb (length (
     go : (b : Bool) → leb (length (p .children)) (fieldBx w) ≡ b
         → length (map (λ v. diagnostic pc 16 (pos v)) (keepIf b (fieldBx w) [])) + getD (p .children) (fieldBx w) 0 ≤ 255
     go true e = omega (arith, List·getD-eq-default (p .children) 0 (leb-true _ _ e))
-    go false e = omega (arith, element-most 255 (fieldBx w) h)
+    go false e = omega (arith, all-getD (fieldBx w) 0 (omega arith) h)
 
 closure-most : (p : Proto) (pc : ℕ) → T (is (wordAt p pc) (CLOSURE ∷ [])) → All (λ n. n ≤ 255) (p .children) → length (knownDiagnostics p pc (wordAt p pc)) ≤ 256
 unfolding knownDiagnostics registerA
@@ -265,3 +270,11 @@ walk-within : (incoming row : ℕ) (ps : List Proto) (v : Walk) → All (λ (p :
 unfolding walkFrom
 walk-within incoming row [] v h k = k
 walk-within incoming row (p ∷ ps) v (all-cons h hs) k = walk-within incoming (suc row) ps (walkRow incoming row v (protoSteps p)) hs (row-within incoming row p v h k)
+
+-- an accepted image
+pub at-most : (i : Image) → Accepted i → length (diagnostics i) ≤ 10255
+unfolding Accepted diagnostics imageWalk imageProtos protos walk
+at-most i a =
+    let kept = image-kept (i .table) (i .words) a in
+    let few = children-most 255 (rows (i .table)) (u32s (i .words)) (all-imp (λ r h. h .upvalues) (kept .fields)) in
+    walk-within (i .warnings + i .errors) 0 (imageProtos i) start few (record { most = omega arith; while-going = λ _. omega arith }) .most

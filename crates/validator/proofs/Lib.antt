@@ -3,3 +3,5 @@ pub mod ExecutionLaws
 pub mod WalkLaws
 pub mod ExampleLaws
 pub mod CountLaws
+pub mod TreeLaws
+pub mod MostLaws

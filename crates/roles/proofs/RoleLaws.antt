@@ -2,15 +2,17 @@
 use Prim.Native.Nat.{ℕ, zero, suc, _+_, _<_}
 use native.Mathlib.Nat.{not-suc-le-zero, le-of-suc-le-suc, add-zero, add-suc, zero-add, suc-add}
 use native.Mathlib.Numerals.{add-one}
-use mathlib.Core.Path.{_≡_, refl, sym, subst, ap}
+use mathlib.Core.Path.{_≡_, refl, sym, _∙_, subst, ap}
 use mathlib.Core.Bool.{Bool, true, false, not}
 use mathlib.Core.List.{List, [], _∷_, map}
-use lib.ListN.{length, getD}
+use lib.ListN.{length, getD, drop, set, length-drop}
+use lib.Seq.{getD-drop}
+use native.Mathlib.Omega.{arith}
 use lib.Dec.{T, ltb, ltb→lt, lt→ltb}
 use Rattle.opcodes.specs.Lists.{All, all-nil, all-cons, upFrom, only}
 use Rattle.opcodes.specs.Words.{is, CLOSURE, SETLIST}
 use Rattle.roles.specs.Table.{Proto}
-use Rattle.roles.specs.Roles.{Role, Instruction, ClosureBinding, SetlistExtra, isExecutable, executableAt, Executable, bindingCount, hasExtra, claims, rolesFrom, roles, roleAt, wordAt, owned}
+use Rattle.roles.specs.Roles.{Role, Instruction, ClosureBinding, SetlistExtra, isExecutable, executableAt, Executable, bindingCount, hasExtra, claims, rolesFrom, roles, roleAt, wordAt, owned, existing}
 use Rattle.opcodes.proofs.AllLaws.{all-append}
 use Rattle.opcodes.proofs.TestLaws.{T-and, and-T, disjoint, is-not}
 
@@ -62,31 +64,67 @@ past-claimed p pc claimed [] = refl
 past-claimed p pc [] (w ∷ ws) = refl
 past-claimed p pc (r ∷ claimed) (w ∷ ws) = past-claimed p (suc pc) claimed ws
 
--- the same after an executable word at index k
-past-owner : (p : Proto) (pc : ℕ) (claimed : List Role) (ws : List ℕ) (k : ℕ) → All Companion claimed → k < length ws
-    → getD (rolesFrom p pc claimed ws) k Instruction ≡ Instruction
-    → getD (rolesFrom p pc claimed ws) (suc (k + length (claims p (pc + k) (getD ws k 0)))) Instruction ≡ Instruction
+-- a claimed word that exists has the role that was claimed for it
+claimed-role : (p : Proto) (pc : ℕ) (claimed : List Role) (ws : List ℕ) (j : ℕ) → j < length claimed → j < length ws → getD (rolesFrom p pc claimed ws) j Instruction ≡ getD claimed j Instruction
 unfolding rolesFrom
-past-owner p pc claimed [] k c h e = absurd (not-suc-le-zero h)
-past-owner p pc [] (w ∷ ws) zero c h e = rw (add-zero, zero-add) (past-claimed p (suc pc) (claims p pc w) ws)
-past-owner p pc [] (w ∷ ws) (suc k) c h e =
-    rw (suc-add k _, add-suc pc k, ← suc-add pc k) (past-owner p (suc pc) (claims p pc w) ws k (claims-companions p pc w) (le-of-suc-le-suc h) e)
-past-owner p pc (r ∷ claimed) (w ∷ ws) zero (all-cons c cs) h e = absurd (subst Companion e c)
-past-owner p pc (r ∷ claimed) (w ∷ ws) (suc k) (all-cons c cs) h e =
-    rw (suc-add k _, add-suc pc k, ← suc-add pc k) (past-owner p (suc pc) claimed ws k cs (le-of-suc-le-suc h) e)
+claimed-role p pc claimed [] j h l = absurd (not-suc-le-zero l)
+claimed-role p pc [] (w ∷ ws) j h l = absurd (not-suc-le-zero h)
+claimed-role p pc (r ∷ claimed) (w ∷ ws) zero h l = refl
+claimed-role p pc (r ∷ claimed) (w ∷ ws) (suc j) h l = claimed-role p (suc pc) claimed ws j (le-of-suc-le-suc h) (le-of-suc-le-suc l)
+
+-- after an executable word at index k, the words go on with what it claims
+after-owner : (p : Proto) (pc : ℕ) (claimed : List Role) (ws : List ℕ) (k : ℕ) → All Companion claimed → k < length ws → getD (rolesFrom p pc claimed ws) k Instruction ≡ Instruction
+    → drop (suc k) (rolesFrom p pc claimed ws) ≡ rolesFrom p (suc (pc + k)) (claims p (pc + k) (getD ws k 0)) (drop (suc k) ws)
+unfolding rolesFrom
+after-owner p pc claimed [] k c h e = absurd (not-suc-le-zero h)
+after-owner p pc [] (w ∷ ws) zero c h e = rw add-zero
+after-owner p pc [] (w ∷ ws) (suc k) c h e =
+    rw (add-suc pc k, ← suc-add pc k) (after-owner p (suc pc) (claims p pc w) ws k (claims-companions p pc w) (le-of-suc-le-suc h) e)
+after-owner p pc (r ∷ claimed) (w ∷ ws) zero (all-cons c cs) h e = absurd (subst Companion e c)
+after-owner p pc (r ∷ claimed) (w ∷ ws) (suc k) (all-cons c cs) h e =
+    rw (add-suc pc k, ← suc-add pc k) (after-owner p (suc pc) claimed ws k cs (le-of-suc-le-suc h) e)
+
+-- of a prototype: the roles after an executable word
+pub roles-after : (p : Proto) (pc : ℕ) → Executable p pc → drop (pc + 1) (roles p) ≡ rolesFrom p (pc + 1) (claims p pc (wordAt p pc)) (drop (pc + 1) (p .code))
+unfolding roles wordAt roleAt
+roles-after p pc x =
+    let e = after-owner p 0 [] (p .code) pc all-nil (exists p pc x) (executable-role _ (role p pc x)) in
+    rw add-one (rw zero-add at e)
 
 -- word 0 is executable, or there is none
 pub first-executable : (p : Proto) → T (isExecutable (roleAt p 0))
 unfolding roleAt roles
 first-executable p = role-executable (past-claimed p 0 [] (p .code))
 
+-- so is the word after an executable one and those that it owns
 pub next-executable : (p : Proto) (pc : ℕ) → Executable p pc → T (isExecutable (roleAt p (pc + 1 + owned p pc)))
-unfolding roleAt roles owned wordAt
+unfolding roleAt owned
 next-executable p pc x =
-    let e : getD (roles p) (suc (pc + length (claims p (0 + pc) (getD (p .code) pc 0)))) Instruction ≡ Instruction = past-owner p 0 [] (p .code) pc all-nil (exists p pc x) (executable-role _ (role p pc x)) in
-    role-executable {r = getD (roles p) (pc + 1 + length (claims p pc (getD (p .code) pc 0))) Instruction} (rw (add-one, suc-add) (rw zero-add at e))
+    role-executable (
+    sym (getD-drop (pc + 1) (roles p) (owned p pc) Instruction)
+    ∙ ap (λ (l : List Role). getD l (owned p pc) Instruction) (roles-after p pc x)
+    ∙ past-claimed p (pc + 1) (claims p pc (wordAt p pc)) (drop (pc + 1) (p .code))
+    )
 
 -- a word of these opcodes owns none
 pub owns-none : (p : Proto) (pc : ℕ) (ops : List ℕ) → T (disjoint ops (CLOSURE ∷ [])) → T (disjoint ops (SETLIST ∷ [])) → T (is (wordAt p pc) ops) → owned p pc ≡ 0
 unfolding owned claims bindingCount hasExtra only
 owns-none p pc ops c s t = simp (is-not (wordAt p pc) ops (CLOSURE ∷ []) c t, is-not (wordAt p pc) ops (SETLIST ∷ []) s t)
+
+-- the words after an executable one that it owns, as far as they exist, have the roles that it claims: whether it is truncated or not
+pub owned-role : (p : Proto) (pc j : ℕ) → Executable p pc → j < existing p pc (owned p pc) → roleAt p (pc + 1 + j) ≡ getD (claims p pc (wordAt p pc)) j Instruction
+unfolding roleAt owned existing
+owned-role p pc j x h =
+    sym (getD-drop (pc + 1) (roles p) j Instruction)
+    ∙ ap (λ (l : List Role). getD l j Instruction) (roles-after p pc x)
+    ∙ claimed-role p (pc + 1) (claims p pc (wordAt p pc)) (drop (pc + 1) (p .code)) j (omega arith) (omega (arith, length-drop (pc + 1) (p .code)))
+
+-- other bits in a companion change no role: it is never read as an owner
+pub companion-unread : (p : Proto) (pc : ℕ) (claimed : List Role) (ws : List ℕ) (k w : ℕ) → T (not (isExecutable (getD (rolesFrom p pc claimed ws) k Instruction)))
+    → rolesFrom p pc claimed (set ws k w) ≡ rolesFrom p pc claimed ws
+unfolding rolesFrom
+companion-unread p pc claimed [] k w t = refl
+companion-unread p pc [] (v ∷ ws) zero w t = absurd t
+companion-unread p pc [] (v ∷ ws) (suc k) w t = ap (λ (l : List Role). Instruction ∷ l) (companion-unread p (suc pc) (claims p pc v) ws k w t)
+companion-unread p pc (r ∷ claimed) (v ∷ ws) zero w t = refl
+companion-unread p pc (r ∷ claimed) (v ∷ ws) (suc k) w t = ap (λ (l : List Role). r ∷ l) (companion-unread p (suc pc) claimed ws k w t)

@@ -5,3 +5,4 @@ pub mod ExampleLaws
 pub mod CountLaws
 pub mod TreeLaws
 pub mod MostLaws
+pub mod Theorems

@@ -226,13 +226,13 @@ proto-full n m e =
 
 -- ---- the image: row 0 with these words, and its child, without words
 
-unfoldable fullTable : List ℕ
+unfoldable pub fullTable : List ℕ
 fullTable = u32Record (0 ∷ 10255 ∷ 0 ∷ 0 ∷ 0 ∷ 1 ∷ 0 ∷ 0 ∷ 255 ∷ 0 ∷ [])
 
-unfoldable fullWords : List ℕ
+unfoldable pub fullWords : List ℕ
 fullWords = u32Record (fullCode 9999 255)
 
-pub fullest : Image
+unfoldable pub fullest : Image
 fullest = record { table = fullTable; words = fullWords; warnings = 0; errors = 0 }
 
 length-table : length fullTable ≡ 40

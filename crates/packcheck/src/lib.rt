@@ -1,0 +1,1 @@
+// The program packcheck: so far as definitions, in specs/.

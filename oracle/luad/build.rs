@@ -1,5 +1,5 @@
-//! Finds luad's published files, in the directory that LUAD_SRC names or in shared/docs/src beside the repository,
-//! and names them as modules. They are compiled where they stand, unchanged.
+//! Finds luad's published files, in the directory that LUAD_SRC names (an absolute path) or in shared/docs/src beside
+//! the repository, and names them as modules. They are compiled where they stand, unchanged.
 use std::path::{Path, PathBuf};
 use std::{env, fs};
 

@@ -1,3 +1,4 @@
+pub mod ExampleLaws
 pub mod RefusalLaws
 pub mod RoleBufferLaws
 pub mod RoleLaws

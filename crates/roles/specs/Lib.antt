@@ -3,3 +3,4 @@ pub mod Roles
 pub mod Bindings
 pub mod Refusals
 pub mod Calls
+pub mod Examples

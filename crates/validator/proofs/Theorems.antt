@@ -29,7 +29,7 @@ use Rattle.roles.proofs.RoleLaws.{owned-role, companion-unread}
 use Rattle.validator.proofs.RuleLaws.{well-formed-iff-none}
 use Rattle.validator.proofs.ExecutionLaws.{runs-safe}
 use Rattle.validator.proofs.WalkLaws.{valid-well-formed, well-formed-valid, invalid-iff, advance-going}
-use Rattle.validator.proofs.CountLaws.{at-most}
+use Rattle.validator.proofs.LimitLaws.{at-most}
 use Rattle.validator.proofs.MostLaws.{fullest, fullest-accepted, fullest-count}
 use Rattle.validator.proofs.ExampleLaws.{examples-hold}
 

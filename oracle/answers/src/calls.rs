@@ -28,11 +28,12 @@ fn outcome(refused: Option<Refused>, records: usize) -> Outcome {
 pub fn calls_for(image: &Image, answer: Option<Answer>) -> Calls {
     let buffers = image.buffers;
     let roles = roles_refusal(&image.protos, &image.words, buffers.roles);
-    let count = |count: fn(&Answer) -> usize| answer.as_ref().map_or(0, count);
-    let bindings = count(|answer| answer.bindings.len());
-    let diagnostics = count(|answer| answer.diagnostics.len());
+    let [words, bindings, diagnostics] = answer.as_ref().map_or([0; 3], |answer| {
+        let Answer { roles, bindings, diagnostics, .. } = answer;
+        [roles.len(), bindings.len(), diagnostics.len()]
+    });
     Calls {
-        roles: outcome(roles, count(|answer| answer.roles.len())),
+        roles: outcome(roles, words),
         bindings: outcome(roles.or(records_refusal(bindings, BINDING_LEN, buffers.bindings)), bindings),
         check: outcome(roles.or(records_refusal(diagnostics, DIAGNOSTIC_LEN, buffers.diagnostics)), diagnostics),
         answer,

@@ -78,8 +78,8 @@ impl Source {
     }
 }
 
-/// Table bytes of rows given as fields.
-pub fn table(fields: &[u32]) -> Vec<u8> {
+/// The bytes of u32 fields, least byte first.
+pub fn le_bytes(fields: &[u32]) -> Vec<u8> {
     fields.iter().flat_map(|field| field.to_le_bytes()).collect()
 }
 
@@ -88,8 +88,8 @@ pub fn image(sources: &[Source]) -> Image {
     let mut image = Image::default();
     for source in sources {
         let words = source.code.len() as u32;
-        image.protos.extend(table(&[source.depth, words, source.constants, source.upvalues, source.stack]));
-        image.words.extend(table(&source.code));
+        image.protos.extend(le_bytes(&[source.depth, words, source.constants, source.upvalues, source.stack]));
+        image.words.extend(le_bytes(&source.code));
     }
     image
 }

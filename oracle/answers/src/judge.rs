@@ -80,12 +80,23 @@ fn role(role: Lua51PhysicalRole) -> [i32; 2] {
     }
 }
 
-/// The three numbers of a binding. luad keeps the descriptor's source location; its pc is that of the parent's word
-/// at this location, and -1 where the upvalue still has the location of its own prototype.
-fn binding(upvalue: &UpvalueDesc, parent: Option<&Prototype>) -> [i32; 3] {
-    let code = parent.map_or(&[][..], |parent| &parent.instructions);
+/// The pc of the word that bound an upvalue. luad keeps this word's source location: it is that of a word of the
+/// parent, or, where nothing was bound, still that of the upvalue's own prototype.
+fn descriptor_pc(upvalue: &UpvalueDesc, proto: &Prototype, parent: Option<&Prototype>) -> i32 {
+    if upvalue.source.offset == proto.source.offset {
+        return -1;
+    }
+    let code = &parent.expect("a parent that bound the upvalue").instructions;
     let pc = code.binary_search_by_key(&upvalue.source.offset, |word| word.source.offset);
-    [i32::from(upvalue.instack), i32::from(upvalue.idx), pc.map_or(-1, |pc| pc as i32)]
+    pc.expect("a word of the parent") as i32
+}
+
+/// The three numbers of each binding of a prototype.
+fn bindings<'a>(proto: &'a Prototype, parent: Option<&'a Prototype>) -> impl Iterator<Item = [i32; 3]> + 'a {
+    let binding = move |upvalue: &UpvalueDesc| {
+        [i32::from(upvalue.instack), i32::from(upvalue.idx), descriptor_pc(upvalue, proto, parent)]
+    };
+    proto.upvalues.iter().map(binding)
 }
 
 /// The value of code 1, which luad's message does not carry: what luad's role map declares for the CLOSURE.
@@ -135,14 +146,11 @@ pub fn judge(image: &Image) -> Answer {
     let incoming = record_incoming(&mut reader, image.warnings, image.errors);
     let chunk = decode_chunk_lua51_with_profile(&mut reader, Lua51Profile::Stock).expect("a chunk that decodes");
     let protos = preorder(&chunk.main_proto);
-    assert_eq!(protos.len(), table.len());
+    assert_eq!(protos.len(), table.len(), "a prototype for each row");
     let row_of: HashMap<ProtoPath, usize> =
         protos.iter().enumerate().map(|(row, (proto, _))| (proto.path.clone(), row)).collect();
     let roles = protos.iter().flat_map(|(proto, _)| discover_roles_lua51(proto).roles).map(role).collect();
-    let bindings = protos
-        .iter()
-        .flat_map(|(proto, parent)| proto.upvalues.iter().map(|upvalue| binding(upvalue, *parent)))
-        .collect();
+    let bindings = protos.iter().flat_map(|(proto, parent)| bindings(proto, *parent)).collect();
     let diagnostics = added(&chunk, incoming).iter().map(|diagnostic| record(diagnostic, &protos, &row_of)).collect();
     Answer { verdict: chunk.verdict, roles, bindings, diagnostics }
 }

@@ -5,7 +5,7 @@ use crate::packcheck::{MOST_ROWS, MOST_WORDS};
 use crate::word::{abc, op, RETURN};
 
 /// The listing of an image whose slices are whole u32 fields.
-pub fn listing(image: &Image) -> String {
+fn listing(image: &Image) -> String {
     let mut text =
         format!("warnings errors\n{} {}\ndepth words constants upvalues stack\n", image.warnings, image.errors);
     for row in fields(&image.protos).chunks(5) {
@@ -33,10 +33,15 @@ fn rows(count: usize) -> String {
     listing(&image(&(0..count).map(row).collect::<Vec<_>>()))
 }
 
-/// The sample with one piece of text put in place of another.
+/// A listing with one piece of its text changed.
+fn changed_in(text: &str, from: &str, to: &str) -> String {
+    assert!(text.contains(from), "{from:?} in {text:?}");
+    text.replacen(from, to, 1)
+}
+
+/// The sample with one piece of its text changed.
 fn changed(from: &str, to: &str) -> String {
-    assert!(sample().contains(from));
-    sample().replacen(from, to, 1)
+    changed_in(&sample(), from, to)
 }
 
 /// Listings with a line out of form, by changes to the sample.
@@ -54,7 +59,6 @@ fn malformed() -> Vec<(&'static str, String)> {
         ("incoming-negative", changed("0 0\n", "-0 0\n")),
         ("incoming-too-big", changed("0 0\n", "4294967296 0\n")),
         ("incoming-long", changed("0 0\n", "99999999999999999999999 0\n")),
-        ("incoming-most", changed("0 0\n", "4294967295 4294967295\n")),
         ("incoming-spaces", changed("0 0\n", "0  0\n")),
         ("incoming-leading", changed("0 0\n", " 0 0\n")),
         ("incoming-trailing", changed("0 0\n", "0 0 \n")),
@@ -101,14 +105,13 @@ fn cut() -> Vec<(&'static str, String)> {
 /// The limits of a listing, and which of 9 and 10 comes first.
 fn too_long() -> Vec<(&'static str, String)> {
     let words = |count: usize| listing(&one(&vec![RETURN; count]));
-    let odd_row = |text: &str| text.replacen("\n64 0 0 0 2\n", "\n64 0 0 0 02\n", 1);
     let last = |count: usize, to: &str| words(count)[..words(count).len() - 9].to_string() + to;
     vec![
         ("rows-64", rows(MOST_ROWS)),
         ("rows-65", rows(MOST_ROWS + 1)),
         ("rows-66", rows(MOST_ROWS + 2)),
-        ("rows-65-malformed", odd_row(&rows(MOST_ROWS + 1))),
-        ("rows-65-cut", rows(MOST_ROWS + 1).split("word\n").next().unwrap().trim_end().to_string()),
+        ("rows-65-malformed", changed_in(&rows(MOST_ROWS + 1), "\n64 0 0 0 2\n", "\n64 0 0 0 02\n")),
+        ("rows-65-cut", changed_in(&rows(MOST_ROWS + 1), "\nword\n", "")),
         ("words-2048", words(MOST_WORDS)),
         ("words-2049", words(MOST_WORDS + 1)),
         ("words-2049-cut", last(MOST_WORDS + 1, "0080001e")),
@@ -125,6 +128,7 @@ fn judged() -> Vec<(&'static str, String)> {
         ("sample", sample()),
         ("no-rows", changed("0 2 1 0 2\n", "")),
         ("no-rows-no-words", "warnings errors\n0 0\ndepth words constants upvalues stack\nword\n".to_string()),
+        ("incoming-most", changed("0 0\n", "4294967295 4294967295\n")),
         ("depth", changed("0 2 1 0 2\n", "0 2 1 0 2\n1 0 0 0 2\n0 0 0 0 2\n")),
         ("depth-first", changed("0 2 1 0 2\n", "1 2 1 0 2\n")),
         ("constants", changed("0 2 1 0 2\n", "0 2 1 0 2\n1 0 2147483648 0 2\n")),

@@ -1,7 +1,8 @@
-//! `answers list [small|large|all [SEED]]` writes the list of images with luad's answers, by default the fixed one;
-//! `answers counts` with the same arguments counts over it; `answers judge` reads images in the same format and writes
-//! them with luad's answers; `answers packcheck` reads a listing and writes what the program packcheck must print;
-//! `answers listings DIR` writes listings and what packcheck must print for them, as NAME.in and NAME.out.
+//! `answers list [small|large|all [SEED]]` writes the list of images with luad's answers, by default the fixed one,
+//! and `answers list short` every short code; `answers counts` with the same arguments counts over it; `answers judge`
+//! reads images in the same format and writes them with luad's answers; `answers packcheck` reads a listing and writes
+//! what the program packcheck must print; `answers listings DIR` writes listings and what packcheck must print for
+//! them, as NAME.in and NAME.out.
 use answers::calls::{calls, Calls};
 use answers::counts::Counts;
 use answers::families::{self, SEED};
@@ -12,16 +13,20 @@ use answers::text::{read_images, write_record};
 use std::io::{self, Read, Write};
 use std::path::Path;
 
-const USAGE: &str = "answers list or counts [small|large|all [SEED]], judge, packcheck, or listings DIR";
+const USAGE: &str = "answers list or counts [short, or small|large|all [SEED]], judge, packcheck, or listings DIR";
 
-/// Hands on the list of a seed, or one half of it.
-fn each(which: &str, seed: u64, visit: &mut dyn FnMut(&Image, &Calls)) {
-    assert!(["small", "large", "all"].contains(&which), "{USAGE}");
-    if which != "large" {
-        families::small(seed, visit);
-    }
-    if which != "small" {
-        families::large(seed, visit);
+/// Hands on the images that the arguments name: a list, by default the whole fixed one, and its seed.
+fn each(args: &[&str], visit: &mut dyn FnMut(&Image, &Calls)) {
+    let seed = args.get(1).map_or(SEED, |seed| seed.parse().expect("a seed"));
+    match args {
+        ["short"] => families::short(visit),
+        ["small"] | ["small", _] => families::small(seed, visit),
+        ["large"] | ["large", _] => families::large(seed, visit),
+        [] | ["all"] | ["all", _] => {
+            families::small(seed, visit);
+            families::large(seed, visit);
+        }
+        _ => panic!("{USAGE}"),
     }
 }
 
@@ -46,13 +51,11 @@ fn main() {
     let args: Vec<&str> = args.iter().map(String::as_str).collect();
     let mut out = io::BufWriter::new(io::stdout().lock());
     let mut put = |text: String| out.write_all(text.as_bytes()).expect("standard output");
-    let which = args.get(1).copied().unwrap_or("all");
-    let seed = args.get(2).map_or(SEED, |seed| seed.parse().expect("a seed"));
-    match args[..] {
-        ["list", ..] => each(which, seed, &mut |image, calls| put(write_record(image, calls))),
-        ["counts", ..] => {
+    match &args[..] {
+        ["list", args @ ..] => each(args, &mut |image, calls| put(write_record(image, calls))),
+        ["counts", args @ ..] => {
             let mut counts = Counts::default();
-            each(which, seed, &mut |image, calls| counts.add(image, calls));
+            each(args, &mut |image, calls| counts.add(image, calls));
             put(counts.to_string());
         }
         ["judge"] => {

@@ -1,7 +1,9 @@
-//! What the program packcheck prints for a listing, transcribed from document 01 and, where document 01 is open, from
-//! the design's decisions; verdicts and diagnostics are luad's.
+//! What the program packcheck prints for a listing, transcribed from document 01; verdicts and diagnostics are luad's.
+//!
+//! Document 01 does not say where the word lines end. They are taken to go on to the end of the input, so that more or
+//! fewer of them than the rows state are refusal 6, and not a line out of form or missing.
 use crate::calls::calls;
-use crate::image::{table, Buffers, Image, DIAGNOSTIC_LEN, ROLE_LEN};
+use crate::image::{le_bytes, Buffers, Image, DIAGNOSTIC_LEN, ROLE_LEN};
 use crate::message::CODES;
 use crate::refusal::{Refusal, Refused};
 
@@ -82,7 +84,7 @@ fn read_rows(lines: &mut Lines) -> Result<Vec<u8>, Refused> {
         if row == MOST_ROWS {
             return Err(lines.refused(Refusal::ListingTooLong));
         }
-        protos.extend(table(&fields));
+        protos.extend(le_bytes(&fields));
     }
     Ok(protos)
 }

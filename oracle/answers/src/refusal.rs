@@ -2,7 +2,7 @@
 use crate::image::{rows, Proto, ROLE_LEN, ROW_LEN};
 
 /// The refusals by their numbers in document 01; 9 and 10 are the program's.
-#[derive(Debug, Clone, Copy, PartialEq, Eq, PartialOrd, Ord)]
+#[derive(Debug, Clone, Copy, PartialEq, Eq)]
 pub enum Refusal {
     NoProtos = 1,
     PartialRow = 2,
@@ -70,30 +70,12 @@ pub fn image_refusal(protos: &[u8], words: &[u8]) -> Option<Refused> {
 
 /// The refusals 1 to 7 of all three calls.
 pub fn roles_refusal(protos: &[u8], words: &[u8], roles_len: usize) -> Option<Refused> {
-    image_refusal(protos, words).or_else(|| {
-        let short = roles_len < ROLE_LEN * (words.len() / 4);
-        short.then_some(Refused { refusal: Refusal::RoleBufferTooShort, figure: 0 })
-    })
+    let short = roles_len < ROLE_LEN * (words.len() / 4);
+    image_refusal(protos, words).or(if short { plain(Refusal::RoleBufferTooShort) } else { None })
 }
 
 /// Refusal 8 of the bindings and check calls, after 1 to 7: more records of `record_len` bytes than fit.
 pub fn records_refusal(needed: usize, record_len: usize, buffer_len: usize) -> Option<Refused> {
     let short = needed > buffer_len / record_len;
     short.then_some(Refused { refusal: Refusal::BufferTooShort, figure: needed })
-}
-
-/// Which of the call's buffers are written: the role buffer, and the call's own.
-#[derive(Debug, Clone, Copy, PartialEq, Eq)]
-pub struct Written {
-    pub roles: bool,
-    pub records: bool,
-}
-
-/// A refusal leaves the buffers untouched, but 8 comes with the roles written.
-pub fn written(refused: Option<Refused>) -> Written {
-    match refused.map(|refused| refused.refusal) {
-        None => Written { roles: true, records: true },
-        Some(Refusal::BufferTooShort) => Written { roles: true, records: false },
-        Some(_) => Written { roles: false, records: false },
-    }
 }

@@ -1,6 +1,6 @@
 //! The text format of images and answers, described in tests/answers/README.md.
 use crate::calls::{Calls, Outcome};
-use crate::image::{fields, Buffers, Image};
+use crate::image::{fields, le_bytes, Buffers, Image};
 use crate::judge::Answer;
 use crate::repetition::{read, write, Style};
 use std::fmt::Write;
@@ -38,7 +38,7 @@ fn answer_lines(answer: &Answer, repeat: bool) -> String {
 }
 
 /// An image without its answers.
-pub fn write_image(image: &Image) -> String {
+fn write_image(image: &Image) -> String {
     let repeat = !image.is_small();
     let Buffers { roles, bindings, diagnostics } = image.buffers;
     format!("image {}\nincoming {} {}\n", image.label, image.warnings, image.errors)
@@ -62,10 +62,21 @@ pub fn write_record(image: &Image, calls: &Calls) -> String {
         + "\n"
 }
 
+/// A value as a u32 field.
+fn field(value: i64) -> u32 {
+    u32::try_from(value).unwrap_or_else(|_| panic!("not a u32: {value}"))
+}
+
+/// The numbers of a line that has so many.
+fn numbers<const COUNT: usize>(items: &str) -> [i64; COUNT] {
+    read(items, 10).try_into().unwrap_or_else(|_| panic!("not {COUNT} numbers: {items}"))
+}
+
 /// The bytes of a line of fields.
 fn field_bytes(items: &str, radix: u32) -> Vec<u8> {
     let (len, items) = items.split_once(' ').unwrap_or((items, ""));
-    let bytes: Vec<u8> = read(items, radix).into_iter().flat_map(|field| (field as u32).to_le_bytes()).collect();
+    let fields: Vec<u32> = read(items, radix).into_iter().map(field).collect();
+    let bytes = le_bytes(&fields);
     assert_eq!(bytes.len(), len.parse::<usize>().expect("a length") / 4 * 4, "as many fields as the length says");
     bytes
 }
@@ -81,19 +92,19 @@ fn read_record(record: &str) -> Image {
     let mut image = Image::default();
     for line in record.lines() {
         let (name, rest) = line.split_once(' ').expect("a name and a space");
-        let numbers = || read(rest, 10);
         match name {
             "image" => image.label = rest.to_string(),
-            "incoming" => [image.warnings, image.errors] = [numbers()[0] as u32, numbers()[1] as u32],
+            "incoming" => [image.warnings, image.errors] = numbers(rest).map(field),
             "table" => image.protos = field_bytes(rest, 10),
             "tail" => image.protos.extend(hex_bytes(rest)),
             "words" => image.words = field_bytes(rest, 16),
             "wtail" => image.words.extend(hex_bytes(rest)),
             "buffers" => {
-                let [roles, bindings, diagnostics] = [0, 1, 2].map(|i| numbers()[i] as usize);
+                let [roles, bindings, diagnostics] = numbers(rest).map(|len| usize::try_from(len).expect("a length"));
                 image.buffers = Buffers { roles, bindings, diagnostics };
             }
-            _ => {}
+            "roles" | "bindings" | "check" | "R" | "B" | "D" => {}
+            _ => panic!("not a line of an image: {line}"),
         }
     }
     image

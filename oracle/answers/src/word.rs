@@ -17,7 +17,6 @@ pub mod op {
     pub const ADD: u32 = 12;
     pub const POW: u32 = 17;
     pub const UNM: u32 = 18;
-    pub const LEN: u32 = 20;
     pub const CONCAT: u32 = 21;
     pub const JMP: u32 = 22;
     pub const EQ: u32 = 23;

@@ -1,6 +1,7 @@
 //! What is written reads back as it was.
-use answers::calls::calls;
+use answers::calls::{calls, Calls};
 use answers::families;
+use answers::image::Image;
 use answers::repetition::{read, write, Style};
 use answers::text::{read_images, write_record};
 
@@ -15,12 +16,24 @@ fn repetition() {
     assert_eq!(write(&[30; 4], Style { width: 1, hex: true, repeat: true }), " 0000001e*4");
 }
 
+fn reads_back(image: &Image, answers: &Calls) {
+    let text = write_record(image, answers);
+    let read: Vec<_> = read_images(&text).collect();
+    assert_eq!(read, std::slice::from_ref(image));
+    assert_eq!(&calls(&read[0]), answers);
+}
+
 #[test]
 fn small_images() {
-    families::small(7, &mut |image, answers| {
-        let text = write_record(image, answers);
-        let read: Vec<_> = read_images(&text).collect();
-        assert_eq!(read, std::slice::from_ref(image));
-        assert_eq!(&calls(&read[0]), answers);
+    families::small(7, &mut reads_back);
+}
+
+#[test]
+fn short_codes() {
+    let mut count = 0;
+    families::short(&mut |image, answers| {
+        count += 1;
+        reads_back(image, answers);
     });
+    assert_eq!(count, 1 + 14 + 14 * 14 + 14 * 14 * 14);
 }

@@ -1,8 +1,8 @@
-//! The refusals in document 01's order, with their figures, and which buffers they leave untouched.
+//! The refusals in document 01's order, with their figures.
 use answers::calls::calls;
-use answers::image::{image, table, Buffers, Image, Source};
+use answers::image::{image, le_bytes, Buffers, Image, Source};
 use answers::refusal::Refusal::*;
-use answers::refusal::{written, Refusal, Refused, Written};
+use answers::refusal::{Refusal, Refused};
 use answers::word::{closure, RETURN};
 
 /// One diagnostic, one upvalue, two words.
@@ -26,7 +26,6 @@ fn refusals(image: &Image) -> [Option<Refused>; 3] {
 fn exact_fit() {
     let calls = calls(&base());
     assert_eq!([calls.roles, calls.bindings, calls.check], [Ok(2), Ok(1), Ok(1)]);
-    assert_eq!(written(None), Written { roles: true, records: true });
 }
 
 #[test]
@@ -36,10 +35,8 @@ fn short_buffers() {
     assert_eq!(refusals(&image), [None, refused(BufferTooShort, 1), None]);
     image.buffers.diagnostics -= 1;
     assert_eq!(refusals(&image), [None, refused(BufferTooShort, 1), refused(BufferTooShort, 1)]);
-    assert_eq!(written(refused(BufferTooShort, 1)), Written { roles: true, records: false });
     image.buffers.roles -= 1;
     assert_eq!(refusals(&image), [refused(RoleBufferTooShort, 0); 3]);
-    assert_eq!(written(refused(RoleBufferTooShort, 0)), Written { roles: false, records: false });
 }
 
 #[test]
@@ -48,9 +45,9 @@ fn least_number_first() {
     image.buffers = Buffers::default();
     image.words.push(0);
     assert_eq!(refusals(&image), [refused(WordCountMismatch, 0); 3]);
-    image.protos = table(&[0, 1, 0, 0, 2, 1, 1, 0, 1, 256]);
+    image.protos = le_bytes(&[0, 1, 0, 0, 2, 1, 1, 0, 1, 256]);
     assert_eq!(refusals(&image), [refused(FieldOverLimit, 1); 3]);
-    image.protos = table(&[0, 1, 0, 0, 256, 1, 1, 0, 1, 2, 3, 0, 0, 0, 0]);
+    image.protos = le_bytes(&[0, 1, 0, 0, 256, 1, 1, 0, 1, 2, 3, 0, 0, 0, 0]);
     assert_eq!(refusals(&image), [refused(BadDepth, 2); 3]);
     image.words.resize(4_194_305, 0);
     assert_eq!(refusals(&image), [refused(TooLarge, 0); 3]);

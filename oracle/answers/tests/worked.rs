@@ -64,4 +64,5 @@ fn malformed_listing() {
     assert_eq!(packcheck(b""), "refused 9 1\n");
     assert_eq!(packcheck(b"warnings errors\n0 0\ndepth words constants upvalues stack\nword\n"), "refused 1 0\n");
     assert_eq!(packcheck(b"warnings errors\n0 0\nword\n"), "refused 9 3\n");
+    assert_eq!(packcheck(b"warnings errors\n0 \xff\n"), "refused 9 2\n");
 }

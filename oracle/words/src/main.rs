@@ -1,6 +1,6 @@
 //! `words list` prints the words that the program decode_words is run on; `words split` reads words and prints the
 //! lines that decode_words must print, by luad's published opcodes.rs.
-use luad::opcodes::{OpMode51, RawInstruction51};
+use luad::opcodes::{OpMode51, Opcode51, RawInstruction51};
 use std::io::{self, BufRead};
 
 /// Values at the edges of a field of so many bits: both ends, and the two around the middle.
@@ -41,36 +41,36 @@ fn flag(b: bool) -> u8 {
     b as u8
 }
 
+/// Opcode number, A and sBx, four bytes each, least byte first.
+fn record(w: &RawInstruction51) -> String {
+    let fields = [u32::from(w.opcode_num).to_le_bytes(), u32::from(w.a).to_le_bytes(), w.sbx.to_le_bytes()];
+    fields.concat().iter().map(|b| format!("{b:02x}")).collect()
+}
+
+/// An opcode's name, mode and operand kinds.
+fn properties(opcode: Option<Opcode51>) -> String {
+    let Some(op) = opcode else { return "- - - - - - -".to_string() };
+    let mode = match op.mode() {
+        OpMode51::IABC => "iABC",
+        OpMode51::IABx => "iABx",
+        OpMode51::IAsBx => "iAsBx",
+    };
+    format!(
+        "{} {mode} {} {} {} {} {}",
+        op.name(),
+        flag(op.a_is_register()),
+        flag(op.b_is_fixed_register()),
+        flag(op.b_is_rk()),
+        flag(op.c_is_fixed_register()),
+        flag(op.c_is_rk())
+    )
+}
+
 /// A word's line.
 fn line(raw: u32) -> String {
     let w = RawInstruction51::decode(raw);
-    let mut record = Vec::new();
-    for field in [u32::from(w.opcode_num), u32::from(w.a)] {
-        record.extend(field.to_le_bytes());
-    }
-    record.extend(w.sbx.to_le_bytes());
-    let record: String = record.iter().map(|b| format!("{b:02x}")).collect();
-    let opcode = match w.opcode {
-        None => "- - - - - - -".to_string(),
-        Some(op) => {
-            let mode = match op.mode() {
-                OpMode51::IABC => "iABC",
-                OpMode51::IABx => "iABx",
-                OpMode51::IAsBx => "iAsBx",
-            };
-            format!(
-                "{} {mode} {} {} {} {} {}",
-                op.name(),
-                flag(op.a_is_register()),
-                flag(op.b_is_fixed_register()),
-                flag(op.b_is_rk()),
-                flag(op.c_is_fixed_register()),
-                flag(op.c_is_rk())
-            )
-        }
-    };
     format!(
-        "{:08x} {} {} {} {} {} {} {} {} {} {} {record} {opcode}",
+        "{:08x} {} {} {} {} {} {} {} {} {} {} {} {}",
         w.raw,
         w.opcode_num,
         w.a,
@@ -81,7 +81,9 @@ fn line(raw: u32) -> String {
         flag(w.is_b_k()),
         w.b_index_k(),
         flag(w.is_c_k()),
-        w.c_index_k()
+        w.c_index_k(),
+        record(&w),
+        properties(w.opcode)
     )
 }
 

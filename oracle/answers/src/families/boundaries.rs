@@ -1,4 +1,4 @@
-//! The limits of the fields, the buffers' lengths around the exact ones.
+//! The limits of the fields, and buffer lengths around the exact ones.
 use crate::image::{image, Image, Source};
 use crate::list::{List, Plan};
 use crate::word::{abc, abx, asbx, bind_register, bind_upvalue, closure, op, setlist_long, RETURN};
@@ -56,7 +56,7 @@ fn add_constants(list: &mut List) {
     }
 }
 
-/// Numbers of upvalues around those that B names, and 255.
+/// B around the number of upvalues, for numbers up to the limit of 255.
 fn add_upvalues(list: &mut List) {
     for upvalues in [0, 1, 2, 254, 255] {
         let near = [0, u32::saturating_sub(upvalues, 1), upvalues, upvalues + 1, 255, 256, 511];
@@ -76,8 +76,8 @@ fn add_upvalues(list: &mut List) {
     }
 }
 
-/// Images with records of all three kinds.
-fn with_records() -> Vec<Image> {
+/// Images with and without records of each kind.
+fn images_for_buffers() -> Vec<Image> {
     let child = |upvalues: u32| Source::main(0, upvalues, 2, &[RETURN]).at(1);
     vec![
         image(&[Source::main(0, 0, 2, &[RETURN])]),
@@ -94,7 +94,7 @@ fn with_records() -> Vec<Image> {
 /// Buffers of the exact size, some bytes short of it, and larger.
 fn add_buffers(list: &mut List) {
     let none = i64::from(i32::MIN);
-    for image in with_records() {
+    for image in images_for_buffers() {
         for (change, record) in [(none, 0), (-1, -1), (-1, 0), (0, -1), (1, 0), (-1, 1), (4_096, 0)] {
             list.push("buffer", Plan::Near([change + 8 * record, 0, 0]), image.clone());
             list.push("buffer", Plan::Near([0, change + 12 * record, 0]), image.clone());

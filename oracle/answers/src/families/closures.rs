@@ -69,7 +69,7 @@ fn random(rng: &mut Rng) -> Vec<Source> {
     sources
 }
 
-/// One CLOSURE of a child with eight upvalues whose companions are eight given words.
+/// One CLOSURE of a child with an upvalue for each of the given companions.
 fn with_companions(companions: &[u32]) -> Vec<Source> {
     let mut code = vec![closure(0, 0)];
     code.extend(companions);

@@ -4,10 +4,12 @@ use crate::list::List;
 use crate::rng::Rng;
 use crate::word::{abc, bind_register, closure, op, setlist_long, RETURN};
 
-/// A word with one diagnostic, one with three, and a CLOSURE whose companions have five.
+/// A word with one diagnostic: no known opcode.
 const BAD: u32 = 63;
+/// A word with three: ADD of registers 9.
 const THREE: u32 = op::ADD | 9 << 6 | 9 << 14 | 9 << 23;
 
+/// A CLOSURE whose five companions have one each, at a child of five upvalues.
 fn five() -> Vec<u32> {
     let mut code = vec![closure(0, 0)];
     code.extend([BAD; 5]);
@@ -56,7 +58,7 @@ fn add_near(list: &mut List) {
     }
 }
 
-/// Numbers whose sum does not fit 32 bits, or fits and is large.
+/// Incoming numbers whose sum does not fit 32 bits, others far above the limit or just around it, and small ones.
 fn add_huge(list: &mut List) {
     let most = u32::MAX;
     let numbers = [

@@ -1,4 +1,4 @@
-//! The fixed list of images, by families.
+//! Images by families: the fixed list, in a small and a large half, and the short codes.
 mod boundaries;
 mod closures;
 mod large;
@@ -8,6 +8,7 @@ mod random;
 mod refused;
 mod setlist;
 mod shapes;
+mod short;
 mod targets;
 mod valid;
 pub mod worked;
@@ -37,6 +38,11 @@ pub fn small(seed: u64, visit: &mut dyn FnMut(&Image, &Calls)) {
     refused::add(&mut list);
     valid::add(&mut list);
     random::add(&mut list);
+}
+
+/// Hands on every short code; these are not in the fixed list.
+pub fn short(visit: &mut dyn FnMut(&Image, &Calls)) {
+    short::add(&mut List::new(SEED, visit));
 }
 
 /// Hands on the large images.

@@ -1,4 +1,4 @@
-//! Every opcode with its operands at the boundaries: one word alone, and packed by the dozen.
+//! Every opcode with its operands at the boundaries: one word alone, and all combinations of B and C, 33 an image.
 use crate::image::{image, Source};
 use crate::list::List;
 use crate::word::{abc, abx, asbx, op, RETURN};

@@ -5,7 +5,7 @@ use crate::rng::Rng;
 use crate::word::{abc, abx, jump, op};
 
 /// A number near one of the given limits, or anywhere below `end`.
-pub fn near(rng: &mut Rng, limits: &[u32], end: u32) -> u32 {
+fn near(rng: &mut Rng, limits: &[u32], end: u32) -> u32 {
     let limit = rng.pick(limits);
     match rng.below(8) {
         0 | 1 => limit.saturating_sub(1).min(end - 1),
@@ -17,7 +17,7 @@ pub fn near(rng: &mut Rng, limits: &[u32], end: u32) -> u32 {
 }
 
 /// A word of the given opcode for a prototype of so many words and children.
-pub fn word(rng: &mut Rng, opcode: u32, proto: &Source, pc: usize, words: usize, children: u32) -> u32 {
+fn word(rng: &mut Rng, opcode: u32, proto: &Source, pc: usize, words: usize, children: u32) -> u32 {
     let a = near(rng, &[proto.stack, 2], 256);
     match opcode {
         op::JMP | op::FORLOOP | op::FORPREP => jump(opcode, a, pc, rng.below(words as u32 + 4) as i32 - 2),
@@ -32,7 +32,7 @@ pub fn word(rng: &mut Rng, opcode: u32, proto: &Source, pc: usize, words: usize,
 }
 
 /// An opcode, most often a known one, with a liking for owners.
-pub fn opcode(rng: &mut Rng) -> u32 {
+fn opcode(rng: &mut Rng) -> u32 {
     match rng.below(20) {
         0 => rng.range(38, 63),
         1 | 2 => op::CLOSURE,
@@ -58,7 +58,7 @@ pub fn children_of(depths: &[u32], row: usize) -> u32 {
 }
 
 /// A prototype with small random fields and no code.
-pub fn fields(rng: &mut Rng, depth: u32) -> Source {
+fn fields(rng: &mut Rng, depth: u32) -> Source {
     Source {
         depth,
         constants: rng.pick(&[0, 1, 2, 3, 5, 40, 256, 300]),

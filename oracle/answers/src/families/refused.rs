@@ -1,5 +1,5 @@
 //! The refusals 1, 2 and 4 to 8, each alone and in pairs; 3 needs large images and is among those.
-use crate::image::{image, table, Buffers, Image, Source};
+use crate::image::{image, le_bytes, Buffers, Image, Source};
 use crate::list::{List, Plan};
 use crate::rng::Rng;
 use crate::word::{bind_register, closure, op, RETURN};
@@ -25,7 +25,7 @@ fn set(image: &mut Image, row: usize, field: usize, value: u32) {
     }
 }
 
-/// What an image can be made wrong by, in a few ways for each refusal.
+/// Makes an image wrong so that a refusal applies, in one of a few ways.
 pub fn wrong(image: &mut Image, refusal: u32, way: u32) {
     let way_of = |ways: u32| way % ways;
     match refusal {
@@ -39,7 +39,7 @@ pub fn wrong(image: &mut Image, refusal: u32, way: u32) {
             image.buffers.bindings = [35, 24, 0, 36][way_of(4) as usize];
             image.buffers.diagnostics = [15, 0, 16, 8][way_of(4) as usize];
         }
-        _ => panic!("no such refusal among the small images"),
+        _ => panic!("refusal {refusal} is not made here"),
     }
 }
 
@@ -84,10 +84,10 @@ fn wrong_words(image: &mut Image, way: u32) {
     match way {
         0 => image.words.push(0),
         1 => image.words.truncate(image.words.len().saturating_sub(1)),
-        2 => image.words.extend(table(&[RETURN])),
+        2 => image.words.extend(le_bytes(&[RETURN])),
         3 => image.words.truncate(image.words.len().saturating_sub(4)),
         4 => image.words.clear(),
-        // the sum of the rows' words, 2^32 + 7, is right modulo 2^32
+        // the rows' words add up to 2^32 + 7, which is right modulo 2^32
         5 => {
             set(image, 1, 1, u32::MAX - 2);
             set(image, 3, 1, 4);
@@ -108,7 +108,7 @@ fn add_alone(list: &mut List) {
     }
 }
 
-/// Two refusals at once, in several ways each; the later is made first, so that it is not undone.
+/// Two refusals at once, in several ways each; the later is made first, while the table still has its rows.
 fn add_pairs(list: &mut List) {
     let refusals = [1, 2, 4, 5, 6, 7, 8];
     for (number, first) in refusals.into_iter().enumerate() {
@@ -123,7 +123,7 @@ fn add_pairs(list: &mut List) {
     }
 }
 
-/// A random set of wrongs, over rows and words of random bytes now and then.
+/// Some refusals at once, by chance; now and then a table or words of random bytes.
 fn random(rng: &mut Rng) -> Image {
     let mut image = base();
     image.warnings = rng.pick(&[0, 0, 1, 9_999, 10_000]);
@@ -144,7 +144,7 @@ fn random(rng: &mut Rng) -> Image {
     image
 }
 
-/// Every table length up to three rows.
+/// Every table length up to three rows, and every length of the words up to 33 bytes.
 fn add_lengths(list: &mut List) {
     for len in 0..=60 {
         let mut image = base();

@@ -150,7 +150,7 @@ pub fn sources(rng: &mut Rng, rows: u32, words: u32) -> Vec<Source> {
     sources
 }
 
-/// One of the fields, or -1 or +1, of one row.
+/// Makes one field of a prototype one less, or one more but at most 255.
 fn change_field(rng: &mut Rng, source: &mut Source) {
     let field = match rng.below(3) {
         0 => &mut source.constants,

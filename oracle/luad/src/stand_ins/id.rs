@@ -3,17 +3,15 @@ use std::rc::Rc;
 
 /// The way from the main prototype to a prototype: a child index for each level.
 #[derive(Debug, Clone, PartialEq, Eq, Hash)]
-pub struct ProtoPath(Rc<Vec<usize>>);
+pub struct ProtoPath(Rc<[usize]>);
 
 impl ProtoPath {
     pub fn root() -> Self {
-        Self(Rc::new(Vec::new()))
+        Self(Rc::new([]))
     }
 
     pub fn child(&self, index: usize) -> Self {
-        let mut indexes = self.0.to_vec();
-        indexes.push(index);
-        Self(Rc::new(indexes))
+        Self(self.0.iter().copied().chain([index]).collect())
     }
 
     pub fn depth(&self) -> usize {

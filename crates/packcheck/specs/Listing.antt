@@ -2,13 +2,14 @@
 -- Assumes nothing: these are definitions.
 use Prim.Native.Nat.{ℕ, zero, suc, _+_, _-_}
 use Prim.Native.String.{String}
-use mathlib.Core.Bool.{Bool, _&&_, cond, not}
+use mathlib.Core.Bool.{_&&_, cond, not}
 use mathlib.Core.List.{List, [], _∷_, flatten}
 use mathlib.Core.Option.{Option, none, some}
 use lib.Dec.{eqb}
 use lib.ListN.{length, getD, take, drop}
 use Rattle.opcodes.specs.Lists.{takeWhile, any}
 use Rattle.opcodes.specs.Bytes.{u32Record}
+use Rattle.roles.specs.Table.{rowFields}
 use Rattle.roles.specs.Refusals.{Refused}
 use Rattle.validator.specs.Image.{Image}
 use Rattle.packcheck.specs.Text.{text, newline, space, same, lines, isDigit, isHexDigit, valueOf, isDecimal}
@@ -74,7 +75,7 @@ unfoldable pub readRows : ℕ → ℕ → List (List ℕ) → Read (List (List �
 readRows at left [] = refusedAt 9 at
 readRows at left (l ∷ ls) =
     let more = readRows (suc at) (left - 1) ls in
-    cond (same l (text "word\n")) (done []) (andThen (readAs at left (decimals 5 l)) (λ r. andThen more (λ rs. done (r ∷ rs))))
+    cond (same l (text "word\n")) (done []) (andThen (readAs at left (decimals rowFields l)) (λ r. andThen more (λ rs. done (r ∷ rs))))
 
 -- The words, at most so many, to the end of the input. (Decided here: word lines fewer or more than the rows state are refusal 6, and none of them is missing)
 unfoldable pub readWords : ℕ → ℕ → List (List ℕ) → Read (List ℕ)

@@ -4,7 +4,7 @@ use mathlib.Core.List.{map, flatMap}
 use Rattle.opcodes.specs.Lists.{only}
 use Rattle.opcodes.specs.Bytes.{u32Bytes, u32Record, u32s, u32At}
 use Rattle.opcodes.specs.Words.{B, C, is}
-use Rattle.roles.specs.Table.{rowAt, rows, below, children, protoOf, protosOf, protos}
+use Rattle.roles.specs.Table.{rowAt, rows, below, children, childAt, protoOf, protosOf, protos}
 use Rattle.roles.specs.Roles.{bindingCount, hasExtra, claims, rolesFrom, roles, roleAt, wordAt, executableAt, existing, bindingWords, roleFields, roleRecords}
 use Rattle.roles.specs.Bindings.{unbound, bindingIndex, writeOf, writesAt, writes, bindingTotal, firstBinding, setBinding, bindRows, bindings, bindingFields}
 use Rattle.roles.specs.Refusals.{refuse, refuseIf, orElse, depthFits, badDepth, fieldsFit, badField, wordTotal, imageRefusal, rolesRefusal, tooShort}
@@ -12,9 +12,9 @@ use Rattle.roles.specs.Calls.{imageBindings, bindingsRefusal}
 use Rattle.roles.specs.Examples.{records, examples, refusalOf, refusals}
 
 pub examples-hold : map records examples ≡ map (λ e. e .expected) examples
-unfolding examples records only u32Bytes u32Record u32s u32At B C is rowAt rows below children protoOf protosOf protos bindingCount hasExtra claims rolesFrom roles roleAt wordAt executableAt existing bindingWords roleFields roleRecords unbound bindingIndex writeOf writesAt writes bindingTotal firstBinding setBinding bindRows bindings bindingFields imageBindings flatMap
+unfolding examples records only u32Bytes u32Record u32s u32At B C is rowAt rows below children childAt protoOf protosOf protos bindingCount hasExtra claims rolesFrom roles roleAt wordAt executableAt existing bindingWords roleFields roleRecords unbound bindingIndex writeOf writesAt writes bindingTotal firstBinding setBinding bindRows bindings bindingFields imageBindings flatMap
 examples-hold = refl
 
 pub refusals-hold : map refusalOf refusals ≡ map (λ e. e .expected) refusals
-unfolding refusals refusalOf only u32Bytes u32Record u32s u32At B C is rowAt rows below children protoOf protosOf bindingCount hasExtra claims rolesFrom roles roleAt wordAt executableAt existing bindingWords unbound bindingIndex writeOf writesAt writes bindingTotal firstBinding setBinding bindRows bindings imageBindings refuse refuseIf orElse depthFits badDepth fieldsFit badField wordTotal imageRefusal rolesRefusal tooShort bindingsRefusal flatMap
+unfolding refusals refusalOf only u32Bytes u32Record u32s u32At B C is rowAt rows below children childAt protoOf protosOf bindingCount hasExtra claims rolesFrom roles roleAt wordAt executableAt existing bindingWords unbound bindingIndex writeOf writesAt writes bindingTotal firstBinding setBinding bindRows bindings imageBindings refuse refuseIf orElse depthFits badDepth fieldsFit badField wordTotal imageRefusal rolesRefusal tooShort bindingsRefusal flatMap
 refusals-hold = refl

@@ -2,7 +2,7 @@
 use Prim.Native.Nat.{ℕ, zero, suc, _+_, _<_}
 use native.Mathlib.Nat.{not-suc-le-zero, le-of-suc-le-suc, add-zero, add-suc, zero-add, suc-add}
 use native.Mathlib.Numerals.{add-one}
-use mathlib.Core.Path.{_≡_, refl, sym, _∙_, subst, ap}
+use mathlib.Core.Path.{_≡_, refl, sym, _∙_, subst, ap, ap₂}
 use mathlib.Core.Bool.{Bool, true, false, not}
 use mathlib.Core.List.{List, [], _∷_, map}
 use lib.ListN.{length, getD, drop, set, length-drop}
@@ -14,7 +14,7 @@ use Rattle.opcodes.specs.Words.{is, CLOSURE, SETLIST}
 use Rattle.roles.specs.Table.{Proto}
 use Rattle.roles.specs.Roles.{Role, Instruction, ClosureBinding, SetlistExtra, isExecutable, executableAt, Executable, bindingCount, hasExtra, claims, rolesFrom, roles, roleAt, wordAt, owned, existing}
 use Rattle.opcodes.proofs.AllLaws.{all-append}
-use Rattle.opcodes.proofs.TestLaws.{T-and, and-T, disjoint, is-not}
+use Rattle.opcodes.proofs.TestLaws.{T-and, T-true, and-T, by-cond, disjoint, is-not}
 
 -- ---- an executable word
 
@@ -96,28 +96,35 @@ pub first-executable : (p : Proto) → T (isExecutable (roleAt p 0))
 unfolding roleAt roles
 first-executable p = role-executable (past-claimed p 0 [] (p .code))
 
+-- an executable word owns what it claims
+pub owned-count : (p : Proto) (pc : ℕ) → Executable p pc → owned p pc ≡ length (claims p pc (wordAt p pc))
+unfolding owned
+owned-count p pc x = rw (T-true (executableAt p pc) x)
+
 -- so is the word after an executable one and those that it owns
 pub next-executable : (p : Proto) (pc : ℕ) → Executable p pc → T (isExecutable (roleAt p (pc + 1 + owned p pc)))
-unfolding roleAt owned
+unfolding roleAt
 next-executable p pc x =
     role-executable (
     sym (getD-drop (pc + 1) (roles p) (owned p pc) Instruction)
-    ∙ ap (λ (l : List Role). getD l (owned p pc) Instruction) (roles-after p pc x)
+    ∙ ap₂ (λ (l : List Role) (n : ℕ). getD l n Instruction) (roles-after p pc x) (owned-count p pc x)
     ∙ past-claimed p (pc + 1) (claims p pc (wordAt p pc)) (drop (pc + 1) (p .code))
     )
 
 -- a word of these opcodes owns none
 pub owns-none : (p : Proto) (pc : ℕ) (ops : List ℕ) → T (disjoint ops (CLOSURE ∷ [])) → T (disjoint ops (SETLIST ∷ [])) → T (is (wordAt p pc) ops) → owned p pc ≡ 0
 unfolding owned claims bindingCount hasExtra only
-owns-none p pc ops c s t = simp (is-not (wordAt p pc) ops (CLOSURE ∷ []) c t, is-not (wordAt p pc) ops (SETLIST ∷ []) s t)
+owns-none p pc ops c s t =
+    by-cond (λ (n : ℕ). n ≡ 0) (executableAt p pc) (length (claims p pc (wordAt p pc))) 0
+    (λ _. simp (is-not (wordAt p pc) ops (CLOSURE ∷ []) c t, is-not (wordAt p pc) ops (SETLIST ∷ []) s t)) (λ _. refl)
 
 -- the words after an executable one that it owns, as far as they exist, have the roles that it claims: whether it is truncated or not
 pub owned-role : (p : Proto) (pc j : ℕ) → Executable p pc → j < existing p pc (owned p pc) → roleAt p (pc + 1 + j) ≡ getD (claims p pc (wordAt p pc)) j Instruction
-unfolding roleAt owned existing
+unfolding roleAt existing
 owned-role p pc j x h =
     sym (getD-drop (pc + 1) (roles p) j Instruction)
     ∙ ap (λ (l : List Role). getD l j Instruction) (roles-after p pc x)
-    ∙ claimed-role p (pc + 1) (claims p pc (wordAt p pc)) (drop (pc + 1) (p .code)) j (omega arith) (omega (arith, length-drop (pc + 1) (p .code)))
+    ∙ claimed-role p (pc + 1) (claims p pc (wordAt p pc)) (drop (pc + 1) (p .code)) j (omega (arith, owned-count p pc x)) (omega (arith, length-drop (pc + 1) (p .code)))
 
 -- other bits in a companion change no role: it is never read as an owner
 pub companion-unread : (p : Proto) (pc : ℕ) (claimed : List Role) (ws : List ℕ) (k w : ℕ) → T (not (isExecutable (getD (rolesFrom p pc claimed ws) k Instruction)))

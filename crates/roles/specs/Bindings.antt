@@ -1,23 +1,23 @@
 -- Upvalue bindings (document 01, "Bindings"; the end of luad's `load_proto_51`). Assumes nothing: these are definitions.
 use Prim.Native.Nat.{ℕ, _+_, _%_}
-use mathlib.Core.Bool.{cond}
 use mathlib.Core.List.{List, [], _∷_, _++_, map, flatMap, foldl}
-use lib.ListN.{length, getD, take, drop, set, replicate}
+use mathlib.Core.Option.{Option, none, some}
+use lib.ListN.{length, take, drop, set, replicate}
 use lib.IntN.{ℤ, pos, negsuc}
 use Rattle.opcodes.specs.Lists.{only, upFrom, total}
 use Rattle.opcodes.specs.Words.{is, operand, B, fieldBx, MOVE, GETUPVAL}
-use Rattle.roles.specs.Table.{Row, Proto, children, protoOf}
-use Rattle.roles.specs.Roles.{executableAt, wordAt, bindingWords}
+use Rattle.roles.specs.Table.{Row, Proto, childAt, protoOf}
+use Rattle.roles.specs.Roles.{wordAt, bindingWords}
 
 -- "instack, index, place of the word in the parent"
 pub record Binding : Type 0 where
   pub instack : ℕ
-  pub index : ℕ
+  pub idx : ℕ
   pub pc : ℤ
 
 -- "Start: 0 0 -1"
 unfoldable pub unbound : Binding
-unbound = record { instack = 0; index = 0; pc = negsuc 0 }
+unbound = record { instack = 0; idx = 0; pc = negsuc 0 }
 
 -- the index that a binding word gives: "B modulo 256"
 unfoldable pub bindingIndex : ℕ → ℕ
@@ -32,15 +32,12 @@ pub record Write : Type 0 where
 -- "existing companion j of its child sets binding j: MOVE gives 1, GETUPVAL gives 0, with B modulo 256; another opcode leaves it"
 unfoldable pub writeOf : ℕ → ℕ → ℕ → ℕ → List Write
 writeOf child j pc w =
-    map (λ s. record { child = child; upvalue = j; binding = record { instack = s; index = bindingIndex w; pc = pos pc } })
+    map (λ s. record { child = child; upvalue = j; binding = record { instack = s; idx = bindingIndex w; pc = pos pc } })
     (only (is w (MOVE ∷ [])) 1 ++ only (is w (GETUPVAL ∷ [])) 0)
 
 -- the writes of the word at pc: of "each executable CLOSURE"
 unfoldable pub writesAt : Proto → ℕ → List Write
-writesAt p pc =
-    cond (executableAt p pc)
-    (flatMap (λ j. writeOf (fieldBx (wordAt p pc)) j (pc + 1 + j) (wordAt p (pc + 1 + j))) (upFrom 0 (bindingWords p pc)))
-    []
+writesAt p pc = flatMap (λ j. writeOf (fieldBx (wordAt p pc)) j (pc + 1 + j) (wordAt p (pc + 1 + j))) (upFrom 0 (bindingWords p pc))
 
 -- "in place order"
 unfoldable pub writes : Proto → List Write
@@ -55,19 +52,21 @@ bindingTotal rs = total (map (λ (r : Row). r .upvalues) rs)
 unfoldable pub firstBinding : List Row → ℕ → ℕ
 firstBinding rs row = bindingTotal (take row rs)
 
--- a write of a row whose children are `cs`
-unfoldable pub setBinding : List Row → List Row → List Binding → Write → List Binding
-setBinding all cs bs v = set bs (firstBinding all (getD (map (λ (c : Row). c .row) cs) (v .child) 0) + v .upvalue) (v .binding)
+-- a write to the records of a child
+unfoldable pub setBinding : List Row → Option Row → Write → List Binding → List Binding
+setBinding all none v bs = bs
+setBinding all (some child) v bs = set bs (firstBinding all (child .row) + v .upvalue) (v .binding)
 
 -- row by row; "a later CLOSURE overwrites"
 unfoldable pub bindRows : List Row → List Row → List ℕ → List Binding → List Binding
 bindRows all [] words bs = bs
 bindRows all (r ∷ rs) words bs =
-    bindRows all rs (drop (r .words) words) (foldl (setBinding all (children (r .depth) rs)) bs (writes (protoOf r rs words)))
+    bindRows all rs (drop (r .words) words)
+    (foldl (λ (bs : List Binding) (v : Write). setBinding all (childAt (r .depth) rs (v .child)) v bs) bs (writes (protoOf r rs words)))
 
 unfoldable pub bindings : List Row → List ℕ → List Binding
 bindings rs words = bindRows rs rs words (replicate (bindingTotal rs) unbound)
 
 -- "Three i32"
 unfoldable pub bindingFields : Binding → List ℤ
-bindingFields b = pos (b .instack) ∷ pos (b .index) ∷ b .pc ∷ []
+bindingFields b = pos (b .instack) ∷ pos (b .idx) ∷ b .pc ∷ []

@@ -19,7 +19,7 @@ unfoldable pub answer : {A : Type 0} → Option Refused → A → Answer A
 answer (some r) a = refused r
 answer none a = accepted a
 
--- a buffer after a call: as it was where the call is refused, else with the new records in front
+-- a buffer (the document's tray) after a call: as it was where the call is refused, else with the new records in front
 unfoldable pub filled : Option Refused → List ℕ → List ℕ → List ℕ
 filled (some r) old new = old
 filled none old new = overwrite old 0 new
@@ -36,17 +36,21 @@ rolesAfter table words roles = filled (rolesRefusal table words (length roles)) 
 
 -- ---- the bindings call: 1 to 8, and the role buffer as the roles call leaves it
 
+-- all binding records of an image
 unfoldable pub imageBindings : List ℕ → List ℕ → List Binding
 imageBindings table words = bindings (rows table) (u32s words)
 
+-- 8 where the records do not fit
 unfoldable pub bindingsRefusal : List ℕ → List ℕ → ℕ → ℕ → Option Refused
 bindingsRefusal table words roleLength bindingLength =
     orElse (rolesRefusal table words roleLength) (tooShort (length (imageBindings table words)) 12 bindingLength)
 
+-- "the number of records"
 unfoldable pub bindingsAnswer : List ℕ → List ℕ → ℕ → ℕ → Answer ℕ
 bindingsAnswer table words roleLength bindingLength =
     answer (bindingsRefusal table words roleLength bindingLength) (length (imageBindings table words))
 
+-- the bindings buffer after the call
 unfoldable pub bindingsAfter : List ℕ → List ℕ → ℕ → List ℕ → List ℕ
 bindingsAfter table words roleLength bindings =
     filled (bindingsRefusal table words roleLength (length bindings)) bindings (i32Record (flatMap bindingFields (imageBindings table words)))

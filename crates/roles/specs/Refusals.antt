@@ -8,7 +8,7 @@ use lib.ListN.{length}
 use Rattle.opcodes.specs.Lists.{total}
 use Rattle.roles.specs.Table.{Row, rowBytes, rows}
 
--- a refusal's number, and "the first guilty row for 4 and 5, the records needed for 8, otherwise 0"
+-- a refusal's number and figure: "the first guilty row for 4 and 5, the records needed for 8, otherwise 0"; the line for packcheck's 9 and 10
 pub record Refused : Type 0 where
   pub number : ℕ
   pub figure : ℕ
@@ -28,6 +28,7 @@ orElse none o = o
 unfoldable pub depthFits : ℕ → ℕ → Row → Bool
 depthFits least most r = leb least (r .depth) && leb (r .depth) most && leb (r .depth) 199
 
+-- of rows of which the first has depth `least` to `most`
 unfoldable pub badDepth : ℕ → ℕ → List Row → Option Refused
 badDepth least most [] = none
 badDepth least most (r ∷ rs) = orElse (refuseIf (not (depthFits least most r)) 4 (r .row)) (badDepth 1 (suc (r .depth)) rs)

@@ -48,6 +48,7 @@ isExecutable Instruction = true
 isExecutable (ClosureBinding owner index) = false
 isExecutable (SetlistExtra owner) = false
 
+-- the word at pc. (A missing one reads 0; what is said of words asks first whether there is one)
 unfoldable pub wordAt : Proto → ℕ → ℕ
 wordAt p pc = getD (p .code) pc 0
 
@@ -58,9 +59,9 @@ executableAt p pc = ltb pc (length (p .code)) && isExecutable (roleAt p pc)
 abbrev pub Executable : Proto → ℕ → Type 0
 Executable p pc = T (executableAt p pc)
 
--- how many words the executable word at pc owns
+-- how many words the word at pc owns: "A companion's bits are never read as an owner"
 unfoldable pub owned : Proto → ℕ → ℕ
-owned p pc = length (claims p pc (wordAt p pc))
+owned p pc = cond (executableAt p pc) (length (claims p pc (wordAt p pc))) 0
 
 -- "Those of the next words that exist": of n words after pc
 unfoldable pub existing : Proto → ℕ → ℕ → ℕ
@@ -70,13 +71,13 @@ existing p pc n = min n (length (p .code) - (pc + 1))
 unfoldable pub isTruncated : Proto → ℕ → Bool
 isTruncated p pc = ltb (existing p pc (owned p pc)) (owned p pc)
 
--- the companions of the word at pc: "a companion's bits are never read as an owner"
+-- how many companions the word at pc has
 unfoldable pub companions : Proto → ℕ → ℕ
-companions p pc = cond (executableAt p pc) (existing p pc (owned p pc)) 0
+companions p pc = existing p pc (owned p pc)
 
--- of these, the ones in which the executable word at pc, a CLOSURE, binds upvalues
+-- in how many of these a CLOSURE at pc binds an upvalue of its child
 unfoldable pub bindingWords : Proto → ℕ → ℕ
-bindingWords p pc = existing p pc (bindingCount p (wordAt p pc))
+bindingWords p pc = cond (executableAt p pc) (existing p pc (bindingCount p (wordAt p pc))) 0
 
 -- "two i32 a word: owner place and upvalue index; -1 -1 for executable, owner and -1 for a SETLIST's extra"
 unfoldable pub roleFields : Role → List ℤ

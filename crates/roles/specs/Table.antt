@@ -3,7 +3,8 @@
 use Prim.Native.Nat.{ℕ, suc, _+_, _*_, _/_}
 use mathlib.Core.List.{List, [], _∷_, map}
 use lib.Dec.{eqb, ltb}
-use lib.ListN.{length, take, drop}
+use mathlib.Core.Option.{Option}
+use lib.ListN.{length, take, drop, getElem?}
 use Rattle.opcodes.specs.Lists.{tabulate, select, takeWhile}
 use Rattle.opcodes.specs.Bytes.{u32At, u32s}
 
@@ -16,7 +17,10 @@ pub record Row : Type 0 where
   pub upvalues : ℕ
   pub stack : ℕ
 
--- five u32
+-- five u32 fields, four bytes each
+abbrev pub rowFields : ℕ
+rowFields = 5
+
 abbrev pub rowBytes : ℕ
 rowBytes = 20
 
@@ -39,11 +43,15 @@ rows table = tabulate (length table / rowBytes) (rowAt table)
 unfoldable pub below : ℕ → List Row → List Row
 below d later = takeWhile (λ (r : Row). ltb d (r .depth)) later
 
--- its children: "later row one deeper, before any row of its own depth or less". Child k is the k-th of them
+-- its children: "later row one deeper, before any row of its own depth or less"
 unfoldable pub children : ℕ → List Row → List Row
 children d later = select (λ (r : Row). eqb (r .depth) (suc d)) (below d later)
 
--- A prototype (the document's part) by itself: its words, its figures, and the number of upvalues of each of its children.
+-- "Child k of a row, from 0, is the k-th later row one deeper"
+unfoldable pub childAt : ℕ → List Row → ℕ → Option Row
+childAt d later k = getElem? (children d later) k
+
+-- A prototype (the document's part) by itself: its words, its limits, and the number of upvalues of each of its children.
 -- A pc (the document's place) is an index into `code`
 pub record Proto : Type 0 where
   pub code : List ℕ

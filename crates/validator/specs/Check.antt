@@ -15,6 +15,7 @@ pub record Checked : Type 0 where
   pub verdict : Verdict
   pub count : ℕ
 
+-- of an image
 unfoldable pub checked : Image → Checked
 checked i = record { verdict = verdict i; count = length (diagnostics i) }
 
@@ -23,9 +24,11 @@ unfoldable pub checkRefusal : Image → ℕ → ℕ → Option Refused
 checkRefusal i roleLength diagnosticLength =
     orElse (rolesRefusal (i .table) (i .words) roleLength) (tooShort (length (diagnostics i)) 16 diagnosticLength)
 
+-- the verdict and the number, or the refusal
 unfoldable pub checkAnswer : Image → ℕ → ℕ → Answer Checked
 checkAnswer i roleLength diagnosticLength = answer (checkRefusal i roleLength diagnosticLength) (checked i)
 
+-- the diagnostics buffer after the call
 unfoldable pub diagnosticsAfter : Image → ℕ → List ℕ → List ℕ
 diagnosticsAfter i roleLength buffer =
     filled (checkRefusal i roleLength (length buffer)) buffer (i32Record (flatMap diagnosticFields (diagnostics i)))

@@ -1,4 +1,4 @@
--- Words that the theorems of proofs/Theorems use beside document 01's definitions. Assumes nothing: these are definitions.
+-- Terms that proofs/Theorems uses beside document 01's definitions. Assumes nothing: these are definitions.
 use Prim.Native.Nat.{ℕ}
 use mathlib.Core.Path.{_≡_}
 use mathlib.Core.Logic.{_≢_}

@@ -1,15 +1,15 @@
 -- The diagnostics of one prototype, with no limit (document 01, "Findings"; luad's validator.rs). Assumes nothing: these are definitions.
 use Prim.Native.Nat.{ℕ, _+_}
 use mathlib.Core.Bool.{Bool, true, false, _&&_, cond, not}
-use mathlib.Core.List.{List, [], _∷_, _++_, map, flatMap, flatten}
+use mathlib.Core.List.{List, [], _∷_, map, flatMap, flatten}
 use lib.Dec.{eqb, ltb, leb}
 use lib.ListN.{length}
 use lib.IntN.{ℤ, pos, negsuc}
 use Rattle.opcodes.specs.Lists.{only, upFrom, select}
-use Rattle.opcodes.specs.Words.{opcode, is, B, C, MOVE, GETUPVAL, CLOSURE, VARARG}
+use Rattle.opcodes.specs.Words.{opcode, is, B, C, CLOSURE}
 use Rattle.roles.specs.Table.{Proto}
 use Rattle.roles.specs.Roles.{roleAt, isExecutable, wordAt, executableAt, owned, isTruncated, bindingWords}
-use Rattle.validator.specs.Operands.{isJump, target, isSkip, skipTarget, constantBx, upvalueB, flagA, registerA, spanEnds, registerIn, constantIn, childBx, capturedRegister, capturedUpvalue}
+use Rattle.validator.specs.Operands.{isUnknown, isBinding, isJump, target, isSkip, skipTarget, constantBx, upvalueB, flagA, registerA, spanEnds, registerIn, constantIn, childBx, capturedRegister, capturedUpvalue}
 
 -- a diagnostic (the document's finding) but for its row; `code` is the number in the document's table
 pub record Diagnostic : Type 0 where
@@ -29,7 +29,7 @@ isError d = not (eqb (d .code) 3)
 -- codes 1 and 2: truncated CLOSURE, with the child's upvalues, and truncated SETLIST
 unfoldable pub truncationAt : Proto → ℕ → List Diagnostic
 truncationAt p pc =
-    only (executableAt p pc && isTruncated p pc)
+    only (isTruncated p pc)
     (cond (is (wordAt p pc) (CLOSURE ∷ [])) (diagnostic pc 1 (pos (owned p pc))) (diagnostic pc 2 (pos 0)))
 
 -- code 3: "stack above 250; place -1"
@@ -38,16 +38,13 @@ stackDiagnostics p = only (ltb 250 (p .stack)) (record { pc = negsuc 0; code = 3
 
 -- ---- of an executable word
 
--- "opcode above 37"
-unfoldable pub isUnknown : ℕ → Bool
-isUnknown w = ltb VARARG (opcode w)
-
 -- codes 5 and 6 for a target: "negative or not below the word count"; "else a companion there"
 unfoldable pub targetDiagnostics : Proto → ℕ → ℤ → List Diagnostic
 targetDiagnostics p pc (negsuc n) = diagnostic pc 5 (negsuc n) ∷ []
 targetDiagnostics p pc (pos n) =
     cond (ltb n (length (p .code))) (only (not (isExecutable (roleAt p n))) (diagnostic pc 6 (pos n))) (diagnostic pc 5 (pos n) ∷ [])
 
+-- of a word with a target
 unfoldable pub jumpDiagnostics : Proto → ℕ → ℕ → List Diagnostic
 jumpDiagnostics p pc w = cond (isJump w) (targetDiagnostics p pc (target pc w)) []
 
@@ -85,7 +82,7 @@ unfoldable pub bindingDiagnostics : Proto → ℕ → List Diagnostic
 bindingDiagnostics p pc =
     let w = wordAt p pc in
     flatten (
-    only (not (is w (MOVE ∷ GETUPVAL ∷ []))) (diagnostic pc 17 (opcodeValue w))
+    only (not (isBinding w)) (diagnostic pc 17 (opcodeValue w))
     ∷ notBelow pc 12 (p .stack) (capturedRegister w)
     ∷ notBelow pc 8 (p .upvalues) (capturedUpvalue w)
     ∷ []

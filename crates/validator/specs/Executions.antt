@@ -23,7 +23,7 @@ pub data State : Type 0 where
   at : ℕ → State
   left : Exit → State
 
--- to come to a place
+-- to come to the word at a pc, if there is one
 unfoldable pub arrive : Proto → ℤ → State
 arrive p (negsuc n) = left (noWordAt (negsuc n))
 arrive p (pos n) = cond (ltb n (length (p .code))) (at n) (left (noWordAt (pos n)))
@@ -52,6 +52,7 @@ pub record Trace : Type 0 where
 unfoldable pub meet : ℕ → Trace → Trace
 meet pc t = record { met = pc ∷ t .met; exit = t .exit }
 
+-- a run of a list of choices, from where it stands
 unfoldable pub runFrom : Proto → List Bool → State → Trace
 runFrom p [] (left e) = record { met = []; exit = e }
 runFrom p [] (at pc) = record { met = pc ∷ []; exit = outOfChoices }
@@ -67,7 +68,7 @@ pub record MayMeet (p : Proto) (pc : ℕ) : Type 0 where
   pub executable : Executable p pc
   pub operands : OperandsInRange p pc
 
--- where a run may leave: "only at RETURN, TAILCALL or past the last word", which is "any place not below the word count"
+-- where a run may leave: at RETURN or TAILCALL, the only words that end it, or "past the last word", which is "any place not below the word count"
 abbrev pub MayLeave : Proto → Exit → Type 0
 MayLeave p (endedAt pc) = T (is (wordAt p pc) (RETURN ∷ TAILCALL ∷ []))
 MayLeave p (noWordAt (pos n)) = length (p .code) ≤ n
@@ -79,5 +80,6 @@ pub record Safe (p : Proto) (t : Trace) : Type 0 where
   pub met : All (MayMeet p) (t .met)
   pub exit : MayLeave p (t .exit)
 
+-- it holds of the run on these choices
 unfoldable pub SafeRun : Proto → List Bool → Type 0
 SafeRun p choices = Safe p (run p choices)

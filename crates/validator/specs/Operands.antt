@@ -6,7 +6,11 @@ use mathlib.Core.List.{List, [], _∷_, flatten}
 use lib.Dec.{ltb}
 use lib.IntN.{ℤ, pos, _+ℤ_}
 use Rattle.opcodes.specs.Lists.{only}
-use Rattle.opcodes.specs.Words.{Field, B, C, operand, fieldA, fieldBx, fieldSBx, is, isConstant, constantIndex, withoutA, withSBx, MOVE, LOADK, LOADBOOL, GETUPVAL, GETGLOBAL, SETGLOBAL, SETUPVAL, SELF, EQ, LT, LE, TEST, TESTSET, CALL, TAILCALL, RETURN, FORLOOP, FORPREP, TFORLOOP, SETLIST, CLOSURE, VARARG}
+use Rattle.opcodes.specs.Words.{Field, B, C, operand, opcode, fieldA, fieldBx, fieldSBx, is, isConstant, constantIndex, withoutA, withSBx, MOVE, LOADK, LOADBOOL, GETUPVAL, GETGLOBAL, SETGLOBAL, SETUPVAL, SELF, EQ, LT, LE, TEST, TESTSET, CALL, TAILCALL, RETURN, FORLOOP, FORPREP, TFORLOOP, SETLIST, CLOSURE, VARARG}
+
+-- "opcode above 37": such a word names nothing
+unfoldable pub isUnknown : ℕ → Bool
+isUnknown w = ltb VARARG (opcode w)
 
 -- ---- where a word goes
 
@@ -43,9 +47,9 @@ upvalueB w = only (is w (GETUPVAL ∷ SETUPVAL ∷ [])) (operand B w)
 unfoldable pub flagA : ℕ → List ℕ
 flagA w = only (is w (EQ ∷ LT ∷ LE ∷ [])) (fieldA w)
 
--- "register A": a register in all but four opcodes. (Of an unknown opcode's A nothing is asked: code 4 is all that is said of it)
+-- "register A": a register in all known opcodes but four
 unfoldable pub registerA : ℕ → List ℕ
-registerA w = only (not (is w withoutA)) (fieldA w)
+registerA w = only (not (isUnknown w) && not (is w withoutA)) (fieldA w)
 
 -- "Last registers": those of spans, in the document's order
 unfoldable pub spanEnds : ℕ → List ℕ
@@ -78,6 +82,9 @@ unfoldable pub childBx : ℕ → List ℕ
 childBx w = only (is w (CLOSURE ∷ [])) (fieldBx w)
 
 -- ---- what a companion of a CLOSURE captures: "a register under MOVE, an upvalue under GETUPVAL"
+
+unfoldable pub isBinding : ℕ → Bool
+isBinding w = is w (MOVE ∷ GETUPVAL ∷ [])
 
 unfoldable pub capturedRegister : ℕ → List ℕ
 capturedRegister w = only (is w (MOVE ∷ [])) (operand B w)

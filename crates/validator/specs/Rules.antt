@@ -1,18 +1,16 @@
 -- The rules (document 01, "Rules"): what every executable word of a prototype keeps, read off table and words, with no limit and from no buffer.
 -- Assumes nothing: these are definitions.
 use Prim.Native.Nat.{ℕ, _+_, _<_}
-use mathlib.Core.Path.{_≡_}
 use mathlib.Core.Bool.{not}
 use mathlib.Core.List.{List, [], _∷_, flatten}
 use lib.Dec.{T}
 use lib.ListN.{length}
 use lib.IntN.{ℤ, pos, negsuc}
 use Rattle.opcodes.specs.Lists.{All}
-use Rattle.opcodes.specs.Words.{is, B, C, MOVE, GETUPVAL}
+use Rattle.opcodes.specs.Words.{B, C}
 use Rattle.roles.specs.Table.{Proto}
 use Rattle.roles.specs.Roles.{Executable, isExecutable, roleAt, wordAt, isTruncated, bindingWords}
-use Rattle.validator.specs.Operands.{isJump, target, isSkip, skipTarget, constantBx, upvalueB, flagA, registerA, spanEnds, registerIn, constantIn, childBx, capturedRegister, capturedUpvalue}
-use Rattle.validator.specs.Diagnostics.{isUnknown}
+use Rattle.validator.specs.Operands.{isUnknown, isBinding, isJump, target, isSkip, skipTarget, constantBx, upvalueB, flagA, registerA, spanEnds, registerIn, constantIn, childBx, capturedRegister, capturedUpvalue}
 
 -- each of some operands is below the limit
 abbrev pub Below : ℕ → List ℕ → Type 0
@@ -25,11 +23,12 @@ registersOf w = flatten (registerA w ∷ spanEnds w ∷ registerIn B w ∷ regis
 unfoldable pub constantsOf : ℕ → List ℕ
 constantsOf w = flatten (constantBx w ∷ constantIn B w ∷ constantIn C w ∷ [])
 
--- "Inside": the operands of the word at pc are in range, those that a CLOSURE's companions name among them
+-- what a companion of a CLOSURE captures is in range
 pub record CapturesInRange (p : Proto) (w : ℕ) : Type 0 where
   pub register : Below (p .stack) (capturedRegister w)
   pub upvalue : Below (p .upvalues) (capturedUpvalue w)
 
+-- "Inside": all operands that the word at pc names are in range, those that a CLOSURE's companions name among them
 pub record OperandsInRange (p : Proto) (pc : ℕ) : Type 0 where
   pub register : Below (p .stack) (registersOf (wordAt p pc))
   pub constant : Below (p .constants) (constantsOf (wordAt p pc))
@@ -48,7 +47,7 @@ pub record JumpKept (p : Proto) (pc : ℕ) : Type 0 where
 
 -- a companion of a CLOSURE is a MOVE or a GETUPVAL, and what it captures is in range
 pub record BindingKept (p : Proto) (w : ℕ) : Type 0 where
-  pub opcode : T (is w (MOVE ∷ GETUPVAL ∷ []))
+  pub opcode : T (isBinding w)
   pub captures : CapturesInRange p w
 
 -- The rules at the executable word at pc, by the document's names and with its codes; its "part" is `proto`
@@ -73,5 +72,5 @@ pub record RulesAt (p : Proto) (pc : ℕ) : Type 0 where
   pub binding : (j : ℕ) → j < bindingWords p pc → BindingKept p (wordAt p (pc + 1 + j))
 
 -- a prototype that keeps the rules
-unfoldable pub WellFormed : Proto → Type 0
-WellFormed p = (pc : ℕ) → Executable p pc → RulesAt p pc
+pub record WellFormed (p : Proto) : Type 0 where
+  pub words : (pc : ℕ) → Executable p pc → RulesAt p pc

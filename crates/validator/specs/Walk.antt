@@ -4,7 +4,7 @@ use Prim.Native.Nat.{ℕ, suc, _+_}
 use mathlib.Core.Bool.{Bool, true, false, _&&_, _||_, cond}
 use mathlib.Core.List.{List, [], _∷_, _++_, map, foldl}
 use lib.Dec.{ltb, leb}
-use lib.ListN.{length, take, drop}
+use lib.ListN.{length}
 use lib.IntN.{ℤ, pos}
 use Rattle.opcodes.specs.Lists.{any}
 use Rattle.validator.specs.Diagnostics.{Diagnostic, isError, Step}
@@ -17,7 +17,7 @@ pub record RowDiagnostic : Type 0 where
 abbrev pub inRow : ℕ → Diagnostic → RowDiagnostic
 inRow row d = record { row = row; diagnostic = d }
 
--- the N at which a test ends the walk
+-- the stop: the N at which a test ends the walk
 abbrev pub MAX-DIAGNOSTICS : ℕ
 MAX-DIAGNOSTICS = 10000
 

@@ -2,12 +2,12 @@
 use Prim.Native.Nat.{ℕ, suc, _*_, _%_, _≤_, _<_}
 use native.Mathlib.Omega.{arith}
 use mathlib.Core.Path.{_≡_, refl, sym, subst}
-use mathlib.Core.Bool.{Bool, true, false, _&&_, _||_, not}
+use mathlib.Core.Bool.{Bool, true, false, _&&_, not}
 use mathlib.Core.List.{List, [], _∷_}
 use mathlib.Core.Option.{Option, none, some}
 use lib.Dec.{T, eqb, ltb, leb, leb→le, eqb→eq}
 use lib.ListN.{length}
-use borrow.Author.Tests.{eqb-true, eqb-false, ltb-false, not-false}
+use borrow.Author.Tests.{eqb-false, ltb-false, not-false}
 use Rattle.opcodes.specs.Lists.{All, all-nil, all-cons}
 use Rattle.roles.specs.Table.{Row, rowBytes, rows}
 use Rattle.roles.specs.Refusals.{Refused, refuse, refuseIf, orElse, depthFits, badDepth, fieldsFit, badField, wordTotal, imageRefusal}

@@ -1,22 +1,21 @@
 -- Reading a role back from a buffer that the roles were written to. Assumes nothing.
-use Prim.Native.Nat.{ℕ, zero, suc, _+_, _*_, _≤_, _<_, _^_, min}
-use native.Mathlib.Nat.{not-suc-le-zero, le-of-suc-le-suc}
+use Prim.Native.Nat.{ℕ, zero, suc, _+_, _*_, _≤_, _<_, _^_}
 use native.Mathlib.Omega.{arith}
-use mathlib.Core.Path.{_≡_, refl, sym, _∙_, ap, ap₂, subst}
+use mathlib.Core.Path.{_≡_, refl, sym, _∙_, ap, ap₂}
 use mathlib.Core.Logic.{_↔_}
-use mathlib.Core.Bool.{Bool, true, false, not}
-use mathlib.Core.List.{List, [], _∷_, _++_, map, flatMap}
+use mathlib.Core.Bool.{Bool, true, false}
+use mathlib.Core.List.{List, [], _∷_, map, flatMap}
 use lib.Dec.{T}
 use lib.ListN.{length, getD, take, drop, length-append, length-map, length-take, length-drop, List·getD-map}
 use lib.IntN.{ℤ, pos, negsuc}
-use Rattle.opcodes.specs.Lists.{All, all-nil, all-cons, only, upFrom, total}
+use Rattle.opcodes.specs.Lists.{All, all-nil, all-cons, only, upFrom}
 use Rattle.opcodes.specs.Bytes.{i32Bits, i32Record, u32Record, u32At, u32s, overwrite}
 use Rattle.roles.specs.Table.{Row, rows, Proto, protoOf, protosOf, protos}
 use Rattle.roles.specs.Roles.{Role, Instruction, ClosureBinding, SetlistExtra, isExecutable, bindingCount, hasExtra, claims, rolesFrom, roles, roleAt, roleFields, roleRecords}
 use Rattle.roles.specs.Refusals.{wordTotal}
 use Rattle.opcodes.specs.Words.{is, fieldBx, CLOSURE}
 use Rattle.opcodes.proofs.TestLaws.{by-cond}
-use Rattle.opcodes.proofs.AllLaws.{all-getD, all-at, all-append, all-map, all-flatMap, all-imp, all-left}
+use Rattle.opcodes.proofs.AllLaws.{all-getD, all-at, all-append, all-map, all-flatMap, all-imp}
 use lib.Seq.{length-take-le, take-all, take-length}
 use Rattle.opcodes.proofs.ListLaws.{getD-flatMap, flatMap-index, length-flatMap}
 use Rattle.roles.proofs.RefusalLaws.{ImageKept}

@@ -1,14 +1,14 @@
 -- Laws of the prototype table: rows as elements, prototypes of rows, the rows below a row, and the search for a child. Assumes nothing.
-use Prim.Native.Nat.{ℕ, zero, suc, _+_, _*_, _/_, _≤_, _<_}
+use Prim.Native.Nat.{ℕ, suc, _+_, _/_, _≤_, _<_}
 use native.Mathlib.Omega.{arith}
 use mathlib.Core.Path.{_≡_, refl, sym, _∙_, ap, subst}
 use mathlib.Core.Bool.{Bool, true, false}
-use mathlib.Core.List.{List, [], _∷_, _++_, map}
+use mathlib.Core.List.{List, [], _∷_, _++_}
 use lib.Dec.{T, eqb, ltb, ltb→lt, lt→ltb}
-use lib.ListN.{length, getD, drop, length-append}
-use lib.Seq.{drop-cons, drop-append-seam, getD-append-add}
+use lib.ListN.{length, getD, drop}
+use lib.Seq.{drop-cons, getD-append-add}
 use borrow.Author.Tests.{lt-ltb, le-ltb, eq-eqb, ne-eqb}
-use Rattle.opcodes.specs.Lists.{All, all-nil, all-cons, takeWhile, goOnIf, select, keepIf}
+use Rattle.opcodes.specs.Lists.{All, all-nil, all-cons, takeWhile, goOnIf, keepIf}
 use Rattle.roles.specs.Table.{Row, rowBytes, rowAt, rows, below, children, Proto, protoOf, protosOf}
 use Rattle.opcodes.proofs.ListLaws.{length-tabulate, getD-tabulate}
 use Rattle.opcodes.proofs.AllLaws.{all-select, all-takeWhile, all-map}

@@ -2,7 +2,7 @@
 -- Assumes nothing: these are definitions.
 use Prim.Native.Nat.{ℕ}
 use mathlib.Core.List.{List, [], _∷_, _++_, flatMap}
-use mathlib.Core.Option.{Option, none, some}
+use mathlib.Core.Option.{Option, none}
 use lib.IntN.{ℤ, pos, negsuc}
 use Rattle.opcodes.specs.Bytes.{u32Record}
 use Rattle.roles.specs.Table.{protos}

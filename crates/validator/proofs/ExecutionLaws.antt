@@ -1,5 +1,5 @@
 -- Every execution of a well-formed prototype is safe. Assumes nothing.
-use Prim.Native.Nat.{ℕ, _+_, _≤_, _<_}
+use Prim.Native.Nat.{ℕ, _+_}
 use native.Mathlib.Nat.{add-zero}
 use native.Mathlib.Omega.{arith}
 use mathlib.Core.Path.{_≡_}
@@ -11,11 +11,11 @@ use lib.IntN.{ℤ, pos, negsuc}
 use Rattle.opcodes.specs.Lists.{all-nil, all-cons}
 use Rattle.opcodes.specs.Words.{operand, C, is, withSBx, JMP, FORPREP, FORLOOP, RETURN, TAILCALL, EQ, LT, LE, TEST, TESTSET, TFORLOOP, LOADBOOL, CLOSURE, SETLIST}
 use Rattle.roles.specs.Table.{Proto}
-use Rattle.roles.specs.Roles.{Executable, executableAt, isExecutable, roleAt, wordAt, owned, existing, isTruncated, companions}
+use Rattle.roles.specs.Roles.{Executable, isExecutable, roleAt, wordAt, owned, existing, isTruncated, companions}
 use Rattle.validator.specs.Operands.{isJump, isSkip, isLoadboolSkip, skipTarget, target}
 use Rattle.validator.specs.Rules.{Lands, RulesAt, WellFormed, OperandsInRange}
-use Rattle.validator.specs.Executions.{Exit, endedAt, noWordAt, outOfChoices, State, at, left, arrive, next, meet, runFrom, run, MayLeave, MayMeet, Safe, SafeRun}
-use Rattle.opcodes.proofs.TestLaws.{T-and, T-true, by-cond, by-or, or-right, disjoint, is-among}
+use Rattle.validator.specs.Executions.{State, at, left, arrive, next, meet, runFrom, run, MayLeave, MayMeet, Safe, SafeRun}
+use Rattle.opcodes.proofs.TestLaws.{T-and, by-cond, by-or, or-right, disjoint, is-among}
 use Rattle.roles.proofs.RoleLaws.{role, executable, first-executable, next-executable, owns-none}
 
 -- a run may be here
@@ -39,9 +39,9 @@ on-fine p pc x ops c s t =
     arrive-role p (pc + 1) (rw (owns-none p pc ops c s t, add-zero) at (next-executable p pc x))
 
 -- an owner that is not truncated has all the companions that it owns
-all-there : (p : Proto) (pc : ℕ) → Executable p pc → T (not (isTruncated p pc)) → companions p pc ≡ owned p pc
+all-there : (p : Proto) (pc : ℕ) → T (not (isTruncated p pc)) → companions p pc ≡ owned p pc
 unfolding companions isTruncated existing
-all-there p pc x t = rw (T-true (executableAt p pc) x) (omega (arith, nltb→le _ (owned p pc) t))
+all-there p pc t = omega (arith, nltb→le _ (owned p pc) t)
 
 -- each step of a run comes to a fine place
 next-fine : (p : Proto) (pc : ℕ) (choice : Bool) → Executable p pc → RulesAt p pc → Fine p (next p pc choice)
@@ -63,7 +63,7 @@ next-fine p pc choice x k =
     (λ _. by-cond (Fine p) (is w (RETURN ∷ [])) _ _ (λ t. is-among w (RETURN ∷ []) (RETURN ∷ TAILCALL ∷ []) tt t)
     (λ _. by-cond (Fine p) (is w (TAILCALL ∷ [])) _ _
     (λ t. by-cond (Fine p) choice _ _ (λ _. is-among w (TAILCALL ∷ []) (RETURN ∷ TAILCALL ∷ []) tt t) (λ _. on-fine p pc x (TAILCALL ∷ []) tt tt t))
-    (λ _. rw (all-there p pc x (k .truncated)) (arrive-role p (pc + 1 + owned p pc) (next-executable p pc x))))))))
+    (λ _. rw (all-there p pc (k .truncated)) (arrive-role p (pc + 1 + owned p pc) (next-executable p pc x))))))))
 
 -- the operands that the rules speak of are those that a run names
 in-range : (p : Proto) (pc : ℕ) → RulesAt p pc → OperandsInRange p pc
@@ -77,16 +77,15 @@ in-range p pc k =
     }
 
 may-meet : (p : Proto) → WellFormed p → (pc : ℕ) → Executable p pc → MayMeet p pc
-unfolding WellFormed
-may-meet p k pc x = record { executable = x; operands = in-range p pc (k pc x) }
+may-meet p k pc x = record { executable = x; operands = in-range p pc (k .words pc x) }
 
 from-fine : (p : Proto) → WellFormed p → (choices : List Bool) (s : State) → Fine p s → Safe p (runFrom p choices s)
-unfolding runFrom meet WellFormed
+unfolding runFrom meet
 from-fine p k [] (left e) x = record { met = all-nil; exit = x }
 from-fine p k [] (at pc) x = record { met = all-cons (may-meet p k pc x) all-nil; exit = tt }
 from-fine p k (c ∷ cs) (left e) x = record { met = all-nil; exit = x }
 from-fine p k (c ∷ cs) (at pc) x =
-    let r = from-fine p k cs (next p pc c) (next-fine p pc c x (k pc x)) in
+    let r = from-fine p k cs (next p pc c) (next-fine p pc c x (k .words pc x)) in
     record { met = all-cons (may-meet p k pc x) (r .met); exit = r .exit }
 
 pub runs-safe : (p : Proto) → WellFormed p → (choices : List Bool) → SafeRun p choices

@@ -1,8 +1,9 @@
-pub mod RuleLaws
-pub mod ExecutionLaws
-pub mod WalkLaws
+pub mod CheckLaws
 pub mod ExampleLaws
+pub mod ExecutionLaws
 pub mod LimitLaws
-pub mod TreeLaws
 pub mod MostLaws
+pub mod RuleLaws
 pub mod Theorems
+pub mod TreeLaws
+pub mod WalkLaws

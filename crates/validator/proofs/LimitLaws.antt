@@ -1,29 +1,29 @@
 -- An accepted image has at most 10,255 diagnostics: 9,999 before a word, and 256 of that word. Assumes nothing.
-use Prim.Native.Nat.{ℕ, zero, suc, _+_, _-_, _*_, _≤_, _<_, min}
+use Prim.Native.Nat.{ℕ, suc, _+_, _-_, _≤_, min}
 use native.Mathlib.Nat.{le-refl}
 use native.Mathlib.Omega.{arith}
-use mathlib.Core.Path.{_≡_, refl, sym, _∙_, ap, subst, subst⁻¹}
+use mathlib.Core.Path.{_≡_, refl, sym, ap, subst}
 use mathlib.Core.Bool.{Bool, true, false, not, _&&_, _||_, cond}
 use mathlib.Core.List.{List, [], _∷_, _++_, map, flatMap, flatten, foldl, append-nil, foldl-append}
-use lib.Dec.{T, leb, ltb, ltb→lt, nltb→le}
+use lib.Dec.{T, leb, ltb}
 use lib.ListN.{length, getD, length-append, length-map, List·getD-eq-default}
 use lib.IntN.{ℤ, pos, negsuc}
-use borrow.Author.Tests.{leb-true, leb-false, lt-leb}
-use Rattle.opcodes.specs.Lists.{All, all-nil, all-cons, only, upFrom, select, keepIf}
+use borrow.Author.Tests.{leb-true, leb-false}
+use Rattle.opcodes.specs.Lists.{All, all-cons, only, upFrom, select, keepIf}
 use Rattle.opcodes.specs.Words.{is, opcode, operand, fieldA, fieldBx, B, C, withSBx, withoutA, MOVE, GETUPVAL, LOADK, GETGLOBAL, SETGLOBAL, SETUPVAL, LOADBOOL, SELF, EQ, LT, LE, TEST, TESTSET, CALL, TAILCALL, RETURN, FORLOOP, FORPREP, TFORLOOP, SETLIST, CLOSURE, VARARG}
 use Rattle.opcodes.specs.Bytes.{u32s}
 use Rattle.roles.specs.Table.{rows, Proto, protos}
 use Rattle.roles.proofs.RefusalLaws.{image-kept}
 use Rattle.roles.proofs.TableLaws.{children-most}
-use Rattle.roles.specs.Roles.{isExecutable, roleAt, executableAt, wordAt, bindingCount, existing, isTruncated, bindingWords}
-use Rattle.validator.specs.Operands.{isJump, target, isSkip, isLoadboolSkip, skipTarget, constantBx, upvalueB, flagA, registerA, spanEnds, registerIn, constantIn, childBx, capturedRegister, capturedUpvalue}
-use Rattle.validator.specs.Diagnostics.{Diagnostic, diagnostic, isUnknown, opcodeValue, notBelow, truncationAt, stackDiagnostics, targetDiagnostics, jumpDiagnostics, skipDiagnostics, bindingDiagnostics, operandDiagnostics, knownDiagnostics, wordDiagnostics, diagnosticsAt, Step, testedStep, untestedStep, protoSteps}
-use Rattle.validator.specs.Walk.{RowDiagnostic, inRow, Walk, MAX-DIAGNOSTICS, countN, start, advance, walkRow, walkFrom, walk}
+use Rattle.roles.specs.Roles.{isExecutable, roleAt, executableAt, wordAt, bindingCount, existing, bindingWords}
+use Rattle.validator.specs.Operands.{isUnknown, isBinding, isJump, target, isSkip, isLoadboolSkip, skipTarget, constantBx, upvalueB, flagA, registerA, spanEnds, registerIn, constantIn, childBx, capturedRegister, capturedUpvalue}
+use Rattle.validator.specs.Diagnostics.{Diagnostic, diagnostic, opcodeValue, notBelow, truncationAt, stackDiagnostics, opcodeDiagnostics, targetDiagnostics, jumpDiagnostics, skipDiagnostics, bindingDiagnostics, operandDiagnostics, knownDiagnostics, wordDiagnostics, diagnosticsAt, Step, testedStep, untestedStep, protoSteps}
+use Rattle.validator.specs.Walk.{inRow, Walk, MAX-DIAGNOSTICS, countN, start, advance, walkRow, walkFrom, walk}
 use Rattle.validator.specs.Image.{Image, imageProtos, imageWalk, diagnostics}
 use Rattle.validator.specs.Claims.{Accepted}
 use Rattle.opcodes.proofs.AllLaws.{all-getD, all-imp}
 use Rattle.opcodes.proofs.ListLaws.{length-upFrom}
-use Rattle.opcodes.proofs.TestLaws.{is-not, is-among, true≢false, or-false, T-true, T-false, by-cond, disjoint}
+use Rattle.opcodes.proofs.TestLaws.{is-not, is-among, true≢false, or-false, T-true, by-cond, disjoint}
 
 -- ---- lists end to end, so many at most
 
@@ -70,7 +70,7 @@ flatMap-most f h (x ∷ xs) = omega (arith, length-append (f x) (flatMap f xs), 
 -- ---- a companion has one at most
 
 binding-most : (p : Proto) (pc : ℕ) → length (bindingDiagnostics p pc) ≤ 1
-unfolding bindingDiagnostics capturedRegister capturedUpvalue flatten only notBelow
+unfolding bindingDiagnostics isBinding capturedRegister capturedUpvalue flatten only notBelow
 binding-most p pc =
     let w = wordAt p pc in
     let both = MOVE ∷ GETUPVAL ∷ [] in
@@ -120,10 +120,17 @@ operands-most p pc w =
     also one pc 12 _ _ _ also one pc 13 _ _ _ also one pc 14 _ _ _ also one pc 15 _ _ _ also one pc 16 _ _ _ also at-most-nil) .most
 
 -- the companions of a word
-bindings-most : (p : Proto) (pc : ℕ) → length (flatMap (bindingDiagnostics p) (upFrom (pc + 1) (bindingWords p pc))) ≤ bindingCount p (wordAt p pc)
+words-most : (p : Proto) (pc : ℕ) → bindingWords p pc ≤ bindingCount p (wordAt p pc)
 unfolding bindingWords existing
+words-most p pc = go (executableAt p pc)
+  where
+    go : (b : Bool) → cond b (min (bindingCount p (wordAt p pc)) (length (p .code) - (pc + 1))) 0 ≤ bindingCount p (wordAt p pc)
+    go true = omega arith
+    go false = omega arith
+
+bindings-most : (p : Proto) (pc : ℕ) → length (flatMap (bindingDiagnostics p) (upFrom (pc + 1) (bindingWords p pc))) ≤ bindingCount p (wordAt p pc)
 bindings-most p pc =
-    omega (arith, flatMap-most (bindingDiagnostics p) (binding-most p) (upFrom (pc + 1) (bindingWords p pc)), length-upFrom (pc + 1) (bindingWords p pc))
+    omega (arith, words-most p pc, flatMap-most (bindingDiagnostics p) (binding-most p) (upFrom (pc + 1) (bindingWords p pc)), length-upFrom (pc + 1) (bindingWords p pc))
 
 other-most : (p : Proto) (pc : ℕ) → is (wordAt p pc) (CLOSURE ∷ []) ≡ false → length (knownDiagnostics p pc (wordAt p pc)) ≤ 256
 unfolding knownDiagnostics bindingCount
@@ -179,7 +186,7 @@ closure-most p pc t h =
     let jumps : length (jumpDiagnostics p pc w) + length (skipDiagnostics p pc w) ≤ 0 =
     omega (arith, length-append (jumpDiagnostics p pc w) (skipDiagnostics p pc w), ap length (closure-jumps p pc w t)) in
     let operands : length (operandDiagnostics p pc w) ≤ 1 + length (notBelow pc 16 (length (p .children)) (childBx w)) =
-    rw (closure-operands p pc w t) (omega (arith, length-append (notBelow pc 10 (p .stack) (registerA w)) (notBelow pc 16 (length (p .children)) (childBx w)), one pc 10 (p .stack) (not (is w withoutA)) (fieldA w))) in
+    rw (closure-operands p pc w t) (omega (arith, length-append (notBelow pc 10 (p .stack) (registerA w)) (notBelow pc 16 (length (p .children)) (childBx w)), one pc 10 (p .stack) (not (isUnknown w) && not (is w withoutA)) (fieldA w))) in
     let most : length (knownDiagnostics p pc w) ≤ length (jumpDiagnostics p pc w) + (length (skipDiagnostics p pc w) + (1 + length (notBelow pc 16 (length (p .children)) (childBx w)) + (bindingCount p w + 0))) =
     (le-refl (length (jumpDiagnostics p pc w)) also le-refl (length (skipDiagnostics p pc w)) also operands also bindings-most p pc also at-most-nil) .most in
     omega (arith, child-most p pc w t h)
@@ -187,23 +194,15 @@ closure-most p pc t h =
 -- ---- a word, whatever it is
 
 word-most : (p : Proto) (pc : ℕ) → All (λ n. n ≤ 255) (p .children) → length (diagnosticsAt p pc) ≤ 256
-unfolding diagnosticsAt wordDiagnostics
-word-most p pc h =
-    let w = wordAt p pc in
-    by-cond (λ (ds : List Diagnostic). length ds ≤ 256) (executableAt p pc) _ _
-    (λ _. by-cond (λ (ds : List Diagnostic). length ds ≤ 256) (isUnknown w) _ _ (λ _. unknown)
-    (λ _. go (is w (CLOSURE ∷ [])) refl))
-    (λ _. none)
+unfolding diagnosticsAt wordDiagnostics opcodeDiagnostics only
+word-most p pc h = at (executableAt p pc) (isUnknown (wordAt p pc)) (is (wordAt p pc) (CLOSURE ∷ [])) refl
   where
-    unknown : length (diagnostic pc 4 (pos (opcode (wordAt p pc))) ∷ []) ≤ 256
-    unknown = omega arith
-
-    none : length {A = Diagnostic} [] ≤ 256
-    none = omega arith
-
-    go : (b : Bool) → is (wordAt p pc) (CLOSURE ∷ []) ≡ b → length (knownDiagnostics p pc (wordAt p pc)) ≤ 256
-    go true e = closure-most p pc (subst T (sym e) tt) h
-    go false e = other-most p pc e
+    at : (x u c : Bool) → is (wordAt p pc) (CLOSURE ∷ []) ≡ c
+        → length (cond x (only u (diagnostic pc 4 (pos (opcode (wordAt p pc)))) ++ cond u [] (knownDiagnostics p pc (wordAt p pc))) []) ≤ 256
+    at true true c e = omega arith
+    at true false true e = closure-most p pc (subst T (sym e) tt) h
+    at true false false e = other-most p pc e
+    at false u c e = omega arith
 
 -- ---- the walk
 

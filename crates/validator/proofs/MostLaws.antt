@@ -4,23 +4,23 @@ use Prim.Native.Nat.{ℕ, zero, suc, _+_, _-_, _*_, _≤_, _<_, _^_, min}
 use native.Mathlib.Nat.{add-zero, zero-add, add-suc, suc-add, not-suc-le-zero, le-of-suc-le-suc}
 use native.Mathlib.Omega.{arith}
 use mathlib.Core.Path.{_≡_, refl, sym, _∙_, ap, ap₂, subst, subst⁻¹}
-use mathlib.Core.Bool.{Bool, true, false, cond, and-false, or-true}
+use mathlib.Core.Bool.{Bool, true, false, or-true}
 use mathlib.Core.List.{List, [], _∷_, _++_, map, flatMap, flatten, foldl, append-nil, foldl-append, map-append}
-use lib.Dec.{T, ltb, eqb}
+use lib.Dec.{ltb, eqb}
 use borrow.Author.Tests.{le-leb, le-ltb, ltb-true, ltb-false, eqb-true, eqb-false}
 use lib.ListN.{length, getD, take, replicate, length-append, length-map, length-replicate, getD-replicate, List·getD-append}
 use lib.Seq.{take-all, getD-at, getD-append-add}
 use Rattle.opcodes.specs.Lists.{All, all-nil, all-cons, only, upFrom, tabulate}
 use Rattle.opcodes.specs.Words.{is, B, C}
 use Rattle.roles.specs.Table.{Proto}
-use Rattle.roles.specs.Roles.{Role, Instruction, ClosureBinding, isExecutable, bindingCount, hasExtra, claims, rolesFrom, roles, roleAt, wordAt, executableAt, Executable, owned, existing, isTruncated, bindingWords}
-use Rattle.validator.specs.Operands.{isJump, isSkip, isLoadboolSkip, constantBx, upvalueB, flagA, registerA, spanEnds, registerIn, constantIn, childBx, capturedRegister, capturedUpvalue}
-use Rattle.validator.specs.Diagnostics.{Diagnostic, isUnknown, truncationAt, jumpDiagnostics, skipDiagnostics, notBelow, operandDiagnostics, bindingDiagnostics, knownDiagnostics, wordDiagnostics, diagnosticsAt}
+use Rattle.roles.specs.Roles.{Role, Instruction, ClosureBinding, bindingCount, hasExtra, claims, rolesFrom, roles, roleAt, wordAt, executableAt, Executable, owned, existing, isTruncated, bindingWords}
+use Rattle.validator.specs.Operands.{isUnknown, isBinding, isJump, isSkip, isLoadboolSkip, constantBx, upvalueB, flagA, registerA, spanEnds, registerIn, constantIn, childBx, capturedRegister, capturedUpvalue}
+use Rattle.validator.specs.Diagnostics.{Diagnostic, truncationAt, opcodeDiagnostics, jumpDiagnostics, skipDiagnostics, notBelow, operandDiagnostics, bindingDiagnostics, knownDiagnostics, wordDiagnostics, diagnosticsAt}
 use Rattle.validator.specs.Diagnostics.{Step, testedStep, untestedStep, stackDiagnostics, protoSteps}
-use Rattle.validator.specs.Walk.{RowDiagnostic, inRow, Walk, MAX-DIAGNOSTICS, countN, start, advance, walkRow, walkFrom, walk}
-use Rattle.validator.proofs.WalkLaws.{advance-going, advance-none}
+use Rattle.validator.specs.Walk.{inRow, Walk, MAX-DIAGNOSTICS, countN, start, advance, walkRow, walkFrom, walk}
+use Rattle.validator.proofs.WalkLaws.{advance-going}
 use Rattle.validator.proofs.TreeLaws.{Begins, begins, advance-ended, proto-begins}
-use Rattle.opcodes.specs.Bytes.{u32At, u32Bytes, u32Record, u32s}
+use Rattle.opcodes.specs.Bytes.{u32At, u32Bytes, u32Record}
 use Rattle.roles.specs.Table.{rowAt, rows, below, children, protoOf, protosOf, protos}
 use Rattle.roles.specs.Refusals.{refuseIf, orElse, depthFits, badDepth, fieldsFit, badField, wordTotal, imageRefusal}
 use Rattle.validator.specs.Image.{Image, imageProtos, imageWalk, diagnostics}
@@ -28,8 +28,8 @@ use Rattle.validator.specs.Claims.{Accepted}
 use Rattle.opcodes.proofs.ByteLaws.{length-u32Record, u32s-record}
 use Rattle.opcodes.proofs.AllLaws.{all-append, all-upFrom, all-upTo, flatMap-none}
 use Rattle.opcodes.proofs.ListLaws.{length-upFrom, length-tabulate}
-use Rattle.opcodes.proofs.TestLaws.{T-true}
-use Rattle.roles.proofs.RoleLaws.{role-executable, executable}
+use Rattle.opcodes.proofs.TestLaws.{T-true, by-cond}
+use Rattle.roles.proofs.RoleLaws.{role-executable, executable, owned-count}
 
 -- a word of an unknown opcode
 abbrev junk : ℕ
@@ -91,16 +91,17 @@ executable-there n m pc h =
 -- ---- its diagnostics
 
 one-before : (n m pc : ℕ) → pc < n → length (diagnosticsAt (fullProto n m) pc) ≡ 1
-unfolding diagnosticsAt wordDiagnostics isUnknown
+unfolding diagnosticsAt wordDiagnostics opcodeDiagnostics isUnknown only
 one-before n m pc h = rw (T-true (executableAt (fullProto n m) pc) (executable-there n m pc (omega arith)), word-before n m pc h)
 
 one-after : (n m j : ℕ) → j < m → length (bindingDiagnostics (fullProto n m) (n + 1 + j)) ≡ 1
-unfolding bindingDiagnostics capturedRegister capturedUpvalue notBelow is only flatten
+unfolding bindingDiagnostics isBinding capturedRegister capturedUpvalue notBelow is only flatten
 one-after n m j h = rw (word-after n m j h)
 
 binding-words : (n m : ℕ) → bindingWords (fullProto n m) n ≡ m
 unfolding bindingWords existing bindingCount is fullProto
-binding-words n m = rw (word-there n m) (omega (arith, length-code n m))
+binding-words n m =
+    rw (T-true (executableAt (fullProto n m) n) (executable-there n m n (omega arith)), word-there n m) (omega (arith, length-code n m))
 
 -- ones, end to end
 flatMap-ones : {A : Type 0} (f : A → List Diagnostic) {xs : List A} → All (λ x. length (f x) ≡ 1) xs → length (flatMap f xs) ≡ length xs
@@ -109,7 +110,7 @@ flatMap-ones f all-nil = refl
 flatMap-ones f (all-cons {x} {xs} h hs) = length-append (f x) (flatMap f xs) ∙ omega (arith, flatMap-ones f hs)
 
 closure-there : (n m : ℕ) → length (knownDiagnostics (fullProto n m) n 36) ≡ suc m
-unfolding knownDiagnostics jumpDiagnostics isJump skipDiagnostics isSkip isLoadboolSkip operandDiagnostics notBelow constantBx upvalueB flagA registerA spanEnds registerIn constantIn childBx is B C only flatten fullProto
+unfolding knownDiagnostics jumpDiagnostics isJump skipDiagnostics isSkip isLoadboolSkip operandDiagnostics notBelow constantBx upvalueB flagA registerA isUnknown spanEnds registerIn constantIn childBx is B C only flatten fullProto
 closure-there n m =
     let p = fullProto n m in
     let bound = upFrom (n + 1) (bindingWords p n) in
@@ -117,7 +118,7 @@ closure-there n m =
     ap suc (ap length (append-nil (flatMap (bindingDiagnostics p) bound)) ∙ flatMap-ones (bindingDiagnostics p) ones ∙ length-upFrom (n + 1) (bindingWords p n) ∙ binding-words n m)
 
 many-there : (n m : ℕ) → length (diagnosticsAt (fullProto n m) n) ≡ suc m
-unfolding diagnosticsAt wordDiagnostics isUnknown
+unfolding diagnosticsAt wordDiagnostics opcodeDiagnostics isUnknown only
 many-there n m = rw (T-true (executableAt (fullProto n m) n) (executable-there n m n (omega arith)), word-there n m) (closure-there n m)
 
 -- none is truncated: a word of opcode 63 owns nothing, and the CLOSURE has all m
@@ -125,15 +126,17 @@ not-truncated : (n m pc o : ℕ) → owned (fullProto n m) pc ≡ o → pc + o <
 unfolding truncationAt isTruncated existing only fullProto
 not-truncated n m pc o e h =
     let p = fullProto n m in
-    rw (le-ltb (min (owned p pc) (length (p .code) - (pc + 1))) (owned p pc) (omega (arith, length-code n m)), and-false)
+    rw (le-ltb (min (owned p pc) (length (p .code) - (pc + 1))) (owned p pc) (omega (arith, length-code n m)))
 
 junk-owns : (n m pc : ℕ) → wordAt (fullProto n m) pc ≡ 63 → owned (fullProto n m) pc ≡ 0
 unfolding owned claims bindingCount hasExtra is only
-junk-owns n m pc e = rw e
+junk-owns n m pc e =
+    let p = fullProto n m in
+    by-cond (λ (k : ℕ). k ≡ 0) (executableAt p pc) (length (claims p pc (wordAt p pc))) 0 (λ _. rw e) (λ _. refl)
 
 closure-owns : (n m : ℕ) → owned (fullProto n m) n ≡ m
-unfolding owned claims bindingCount hasExtra is only fullProto
-closure-owns n m = rw (word-there n m) (ap length (append-nil (tabulate m (ClosureBinding n))) ∙ length-tabulate (ClosureBinding n) m)
+unfolding claims bindingCount hasExtra is only fullProto
+closure-owns n m = owned-count (fullProto n m) n (executable-there n m n (omega arith)) ∙ rw (word-there n m) (ap length (append-nil (tabulate m (ClosureBinding n))) ∙ length-tabulate (ClosureBinding n) m)
 
 whole : (n m pc : ℕ) → pc < n + suc m → truncationAt (fullProto n m) pc ≡ []
 whole n m pc h = go (ltb pc n) (eqb pc n) refl refl

@@ -8,14 +8,16 @@ use mathlib.Core.Bool.{Bool, true, false, not, _&&_, cond}
 use mathlib.Core.List.{List, [], _∷_, _++_, map, flatMap, flatten}
 use lib.Dec.{T, T-not, eqb, leb, ltb, leb→le, nleb→lt, ltb→lt, nltb→le}
 use lib.ListN.{length}
+use borrow.Author.Tests.{le-ltb}
 use lib.IntN.{ℤ, pos, negsuc}
 use Rattle.opcodes.specs.Lists.{All, all-nil, all-cons, only, upFrom, select, keepIf}
-use Rattle.opcodes.specs.Words.{opcode, is, B, C, MOVE, GETUPVAL, CLOSURE}
+use Rattle.opcodes.specs.Words.{opcode, is, B, C, CLOSURE}
 use Rattle.roles.specs.Table.{Proto}
-use Rattle.roles.specs.Roles.{isExecutable, executableAt, Executable, roleAt, wordAt, owned, isTruncated, bindingWords}
-use Rattle.validator.specs.Operands.{isJump, target, isSkip, skipTarget, constantBx, upvalueB, flagA, registerA, spanEnds, registerIn, constantIn, childBx, capturedRegister, capturedUpvalue}
-use Rattle.validator.specs.Diagnostics.{Diagnostic, diagnostic, isError, isUnknown, notBelow, truncationAt, targetDiagnostics, jumpDiagnostics, skipDiagnostics, bindingDiagnostics, operandDiagnostics, knownDiagnostics, wordDiagnostics, diagnosticsAt}
-use Rattle.validator.specs.Rules.{Below, registersOf, constantsOf, Lands, JumpKept, BindingKept, RulesAt, WellFormed}
+use Rattle.roles.specs.Roles.{isExecutable, executableAt, Executable, roleAt, wordAt, owned, existing, isTruncated, bindingWords}
+use Rattle.validator.specs.Operands.{isUnknown, isBinding, isJump, target, isSkip, skipTarget, constantBx, upvalueB, flagA, registerA, spanEnds, registerIn, constantIn, childBx, capturedRegister, capturedUpvalue}
+use Rattle.validator.specs.Diagnostics.{Diagnostic, diagnostic, isError, notBelow, truncationAt, opcodeDiagnostics, targetDiagnostics, jumpDiagnostics, skipDiagnostics, bindingDiagnostics, operandDiagnostics, knownDiagnostics, wordDiagnostics, diagnosticsAt}
+use Rattle.validator.specs.Claims.{RulesByCodes}
+use Rattle.validator.specs.Rules.{Below, registersOf, constantsOf, Lands, BindingKept, RulesAt, WellFormed}
 use Rattle.opcodes.proofs.AllLaws.{all-left, all-right, all-head, all-tail, all-flatten, flatten-all}
 use Rattle.opcodes.proofs.TestLaws.{T-true, not-not, double-not, by-cond}
 use Rattle.roles.proofs.RoleLaws.{exists, role, executable}
@@ -124,9 +126,9 @@ unfolding bindingDiagnostics
 tells-binding p pc =
     let w = wordAt p pc in
     tells-as
-    (λ x. record { opcode = double-not (is w (MOVE ∷ GETUPVAL ∷ [])) (x .0); captures = record { register = x .1 .0; upvalue = x .1 .1 .0 } })
-    (λ k. not-not (is w (MOVE ∷ GETUPVAL ∷ [])) (k .opcode) & k .captures .register & k .captures .upvalue & tt)
-    ((tells-only (not (is w (MOVE ∷ GETUPVAL ∷ []))) _ tt
+    (λ x. record { opcode = double-not (isBinding w) (x .0); captures = record { register = x .1 .0; upvalue = x .1 .1 .0 } })
+    (λ k. not-not (isBinding w) (k .opcode) & k .captures .register & k .captures .upvalue & tt)
+    ((tells-only (not (isBinding w)) _ tt
     and tells-below pc 12 (p .stack) (capturedRegister w) tt
     and tells-below pc 8 (p .upvalues) (capturedUpvalue w) tt
     and tell-nil) .all)
@@ -176,21 +178,21 @@ tells-known p pc known whole =
     and tell-nil) .all)
 
 tells-word : (p : Proto) (pc : ℕ) → T (not (isTruncated p pc)) → Tells (wordDiagnostics p pc (wordAt p pc)) (RulesAt p pc)
-unfolding wordDiagnostics
-tells-word p pc whole =
-    by-cond (λ ds. Tells ds (RulesAt p pc)) (isUnknown (wordAt p pc)) _ _
-    (λ t. tells-error _ [] tt (λ k. T-not (isUnknown (wordAt p pc)) (k .opcode) t))
-    (λ t. tells-known p pc t whole)
+unfolding wordDiagnostics opcodeDiagnostics only
+tells-word p pc whole = go (isUnknown (wordAt p pc)) refl
+  where
+    go : (b : Bool) → isUnknown (wordAt p pc) ≡ b → Tells (only b (diagnostic pc 4 (pos (opcode (wordAt p pc)))) ++ cond b [] (knownDiagnostics p pc (wordAt p pc))) (RulesAt p pc)
+    go true e = tells-error _ [] tt (λ k. T-not (isUnknown (wordAt p pc)) (k .opcode) (subst T (sym e) tt))
+    go false e = tells-known p pc (subst (λ (b : Bool). T (not b)) (sym e) tt) whole
 
 -- at an executable word
 tells-at : (p : Proto) (pc : ℕ) → Executable p pc → T (not (isTruncated p pc)) → Tells (diagnosticsAt p pc) (RulesAt p pc)
 unfolding diagnosticsAt
 tells-at p pc x whole = rw (T-true (executableAt p pc) x) (tells-word p pc whole)
 
-tells-truncation : (p : Proto) (pc : ℕ) → Executable p pc → Tells (truncationAt p pc) (T (not (isTruncated p pc)))
+tells-truncation : (p : Proto) (pc : ℕ) → Tells (truncationAt p pc) (T (not (isTruncated p pc)))
 unfolding truncationAt
-tells-truncation p pc x =
-    rw (T-true (executableAt p pc) x)
+tells-truncation p pc =
     (tells-only (isTruncated p pc) _ (by-cond (λ d. T (isError d)) (is (wordAt p pc) (CLOSURE ∷ [])) _ _ (λ _. tt) (λ _. tt)))
 
 -- ---- a prototype
@@ -204,22 +206,25 @@ none-elsewhere p pc f away here = go (executableAt p pc) refl
     go false e = subst (λ (b : Bool). f b ≡ []) (sym e) away
 
 pub clean-well-formed : (p : Proto) → ((pc : ℕ) → pc < length (p .code) → All Warns (truncationAt p pc)) → ((pc : ℕ) → pc < length (p .code) → All Warns (diagnosticsAt p pc)) → WellFormed p
-unfolding WellFormed
-clean-well-formed p t d pc x =
-    let h = exists p pc x in
-    tells-at p pc x (tells-truncation p pc x .clean (t pc h)) .clean (d pc h)
+clean-well-formed p t d =
+    record { words = λ pc x. tells-at p pc x (tells-truncation p pc .clean (t pc (exists p pc x))) .clean (d pc (exists p pc x)) }
+
+-- a companion owns none and is not truncated
+not-truncated : (p : Proto) → WellFormed p → (pc : ℕ) → T (not (isTruncated p pc))
+unfolding isTruncated owned
+not-truncated p k pc = go (executableAt p pc) refl
+  where
+    go : (b : Bool) → executableAt p pc ≡ b → T (not (isTruncated p pc))
+    go true e = k .words pc (subst T (sym e) tt) .truncated
+    go false e = rw (e, le-ltb (existing p pc 0) 0 (omega arith)) tt
 
 pub no-truncation : (p : Proto) → WellFormed p → (pc : ℕ) → truncationAt p pc ≡ []
-unfolding WellFormed truncationAt only
-no-truncation p k pc =
-    none-elsewhere p pc
-    (λ b. only (b && isTruncated p pc) (cond (is (wordAt p pc) (CLOSURE ∷ [])) (diagnostic pc 1 (pos (owned p pc))) (diagnostic pc 2 (pos 0)))) refl
-    (λ x. tells-truncation p pc x .none (k pc x .truncated))
+no-truncation p k pc = tells-truncation p pc .none (not-truncated p k pc)
 
 pub no-diagnostics : (p : Proto) → WellFormed p → (pc : ℕ) → diagnosticsAt p pc ≡ []
-unfolding WellFormed diagnosticsAt
+unfolding diagnosticsAt
 no-diagnostics p k pc =
-    none-elsewhere p pc (λ b. cond b (wordDiagnostics p pc (wordAt p pc)) []) refl (λ x. tells-at p pc x (k pc x .truncated) .none (k pc x))
+    none-elsewhere p pc (λ b. cond b (wordDiagnostics p pc (wordAt p pc)) []) refl (λ x. tells-at p pc x (k .words pc x .truncated) .none (k .words pc x))
 
 -- document 01's own sentence: a prototype keeps the rules when no condition of codes 1, 2 and 4 to 17 holds in it
 pub well-formed-iff-none : (p : Proto) → WellFormed p ↔ ((pc : ℕ) → pc < length (p .code) → (truncationAt p pc ≡ []) × (diagnosticsAt p pc ≡ []))
@@ -228,3 +233,39 @@ well-formed-iff-none p =
       λ k pc h. (no-truncation p k pc, no-diagnostics p k pc),
       λ f. clean-well-formed p (λ pc h. clean _ (f pc h .0)) (λ pc h. clean _ (f pc h .1)),
     )
+
+-- ---- each rule by its codes
+
+tells-iff : {ds : List Diagnostic} {X : Type 0} → Tells ds X → X ↔ (ds ≡ [])
+tells-iff t = (t .none, λ e. t .clean (subst (λ (l : List Diagnostic). All Warns l) (sym e) all-nil))
+
+pub rules-by-codes : (p : Proto) (pc : ℕ) → RulesByCodes p pc
+unfolding registersOf constantsOf jumpDiagnostics opcodeDiagnostics
+rules-by-codes p pc =
+    let w = wordAt p pc in
+    record {
+      truncated = tells-iff (tells-truncation p pc);
+      opcode = tells-iff (tells-only (isUnknown w) _ tt);
+      jump = tells-iff (
+          tells-as (λ (t, (s, _)). record { target = t; skip = s }) (λ k. k .target & k .skip & tt)
+          ((tells-if (isJump w) (tells-target p pc (target pc w)) and tells-skip p pc w and tell-nil) .all)
+          );
+      constant = tells-iff (
+          tells-as (λ (k, (b, (c, _))). all-flatten (all-cons k (all-cons b (all-cons c all-nil))))
+          (λ h.
+          let k = flatten-all (constantBx w ∷ constantIn B w ∷ constantIn C w ∷ []) h in
+          all-head k & all-head (all-tail k) & all-head (all-tail (all-tail k)) & tt)
+          ((tells-below pc 7 (p .constants) (constantBx w) tt and tells-below pc 14 (p .constants) (constantIn B w) tt and tells-below pc 15 (p .constants) (constantIn C w) tt and tell-nil) .all)
+          );
+      upvalue = tells-iff (tells-below pc 8 (p .upvalues) (upvalueB w) tt);
+      flag = tells-iff (tells-below pc 9 2 (flagA w) tt);
+      register = tells-iff (
+          tells-as (λ (a, (s, (b, (c, _)))). all-flatten (all-cons a (all-cons s (all-cons b (all-cons c all-nil)))))
+          (λ h.
+          let r = flatten-all (registerA w ∷ spanEnds w ∷ registerIn B w ∷ registerIn C w ∷ []) h in
+          all-head r & all-head (all-tail r) & all-head (all-tail (all-tail r)) & all-head (all-tail (all-tail (all-tail r))) & tt)
+          ((tells-below pc 10 (p .stack) (registerA w) tt and tells-below pc 11 (p .stack) (spanEnds w) tt and tells-below pc 12 (p .stack) (registerIn B w) tt and tells-below pc 13 (p .stack) (registerIn C w) tt and tell-nil) .all)
+          );
+      proto = tells-iff (tells-below pc 16 (length (p .children)) (childBx w) tt);
+      binding = tells-iff (tells-upFrom (bindingDiagnostics p) (λ at. BindingKept p (wordAt p at)) (pc + 1) (bindingWords p pc) (λ j h. tells-binding p (pc + 1 + j)));
+    }

@@ -1,49 +1,60 @@
 -- What is proved of document 01's definitions. Open this file first: each theorem stands under the sentence that it states, and its proof cites a law of
 -- the modules beside it. The definitions are in specs/. Assumes nothing.
-use Prim.Native.Nat.{ℕ, zero, suc, _+_, _%_, _≤_, _<_}
+use Prim.Native.Nat.{ℕ, zero, suc, _+_, _≤_, _<_}
 use native.Mathlib.Nat.{not-suc-le-zero, le-of-suc-le-suc}
 use native.Mathlib.Omega.{arith}
-use mathlib.Core.Path.{_≡_, refl}
+use mathlib.Core.Path.{_≡_, refl, subst⁻¹}
 use mathlib.Core.Logic.{_↔_, _⊎_}
 use mathlib.Core.Bool.{Bool, true, false, not}
 use mathlib.Core.List.{List, [], _∷_, _++_, map, flatMap, flatten}
 use lib.Dec.{T}
-use lib.ListN.{length, getD, set}
-use lib.IntN.{ℤ}
+use lib.ListN.{length, getD, drop, set}
 use Rattle.opcodes.specs.Lists.{All, Some, only}
-use Rattle.opcodes.specs.Words.{is, operand, B, C}
-use Rattle.roles.specs.Table.{Proto}
+use Rattle.opcodes.specs.Bytes.{u32s}
+use Rattle.opcodes.specs.Words.{is, B, C}
+use Rattle.roles.specs.Table.{Row, rows, Proto, protoOf, protosOf}
 use Rattle.roles.specs.Roles.{Instruction, isExecutable, Executable, bindingCount, hasExtra, claims, rolesFrom, roles, roleAt, wordAt, executableAt, owned, existing, isTruncated, bindingWords}
-use Rattle.roles.specs.Bindings.{bindingIndex}
 use Rattle.roles.specs.Calls.{accepted}
-use Rattle.validator.specs.Operands.{target, isJump, isSkip, isLoadboolSkip, skipTarget, constantBx, upvalueB, flagA, registerA, spanEnds, registerIn, constantIn, childBx, capturedRegister, capturedUpvalue}
-use Rattle.validator.specs.Diagnostics.{Step, truncationAt, isUnknown, jumpDiagnostics, skipDiagnostics, notBelow, operandDiagnostics, knownDiagnostics, wordDiagnostics, diagnosticsAt}
-use Rattle.validator.specs.Walk.{Walk, inRow, countN, advance, MAX-DIAGNOSTICS, ValidForParser, Incomplete, Invalid}
-use Rattle.validator.specs.Image.{Image, imageProtos, diagnostics, verdict}
-use Rattle.validator.specs.Rules.{registersOf, constantsOf, JumpKept, RulesAt, WellFormed}
+use Rattle.validator.specs.Operands.{isUnknown, isBinding, target, isJump, isSkip, isLoadboolSkip, constantBx, upvalueB, flagA, registerA, spanEnds, registerIn, constantIn, childBx}
+use Rattle.validator.specs.Diagnostics.{Step, testedStep, protoSteps, truncationAt, opcodeDiagnostics, jumpDiagnostics, skipDiagnostics, notBelow, operandDiagnostics, knownDiagnostics, wordDiagnostics, diagnosticsAt}
+use Rattle.validator.specs.Walk.{Walk, inRow, countN, start, advance, walkRow, MAX-DIAGNOSTICS, ValidForParser, Invalid}
+use Rattle.validator.specs.Image.{Image, imageProtos, imageWalk, diagnostics, verdict}
+use Rattle.validator.specs.Check.{Checked, checkAnswer}
+use Rattle.validator.specs.Rules.{Below, registersOf, constantsOf, JumpKept, BindingKept, WellFormed}
 use Rattle.validator.specs.Executions.{arrive, next, meet, runFrom, run, SafeRun}
-use Rattle.validator.specs.Claims.{Accepted, largeStacks, IsError, Passed}
-use Rattle.validator.specs.Examples.{result, examples}
-use Rattle.opcodes.proofs.AllLaws.{all-head, all-imp}
-use Rattle.roles.proofs.RoleLaws.{owned-role, companion-unread}
-use Rattle.validator.proofs.RuleLaws.{well-formed-iff-none}
+use Rattle.validator.specs.Claims.{Accepted, largeStacks, IsError, RulesByCodes, Passed, Guarantee}
+use Rattle.validator.specs.Examples.{result, examples, runExamples}
+use Rattle.opcodes.proofs.AllLaws.{all-head, all-tail, all-imp}
+use Rattle.roles.proofs.RoleLaws.{executable, first-executable, owned-role, companion-unread}
+use Rattle.validator.proofs.RuleLaws.{well-formed-iff-none, rules-by-codes}
 use Rattle.validator.proofs.ExecutionLaws.{runs-safe}
-use Rattle.validator.proofs.WalkLaws.{valid-well-formed, well-formed-valid, invalid-iff, advance-going}
+use Rattle.validator.proofs.WalkLaws.{valid-well-formed, well-formed-valid, invalid-iff, advance-going, word-is-one-step}
 use Rattle.validator.proofs.LimitLaws.{at-most}
 use Rattle.validator.proofs.MostLaws.{fullest, fullest-accepted, fullest-count}
-use Rattle.validator.proofs.ExampleLaws.{examples-hold}
+use Rattle.validator.proofs.TreeLaws.{walkChildren, image-by-children}
+use Rattle.validator.proofs.CheckLaws.{check-guaranteed}
+use Rattle.validator.proofs.ExampleLaws.{examples-hold, runs-hold}
 
--- ---- the rules
+-- ---- the rules are the conditions of the diagnostics
 
 -- "A part keeps the rules when no condition of codes 1, 2 and 4 to 17 holds in it"
 pub rules-are-the-conditions : (p : Proto) → WellFormed p ↔ ((pc : ℕ) → pc < length (p .code) → (truncationAt p pc ≡ []) × (diagnosticsAt p pc ≡ []))
 rules-are-the-conditions p = well-formed-iff-none p
+
+-- and each of them is that of its own codes
+pub rules-have-their-codes : (p : Proto) (pc : ℕ) → RulesByCodes p pc
+rules-have-their-codes p pc = rules-by-codes p pc
 
 -- ---- a. a prototype that keeps the rules: for every list of choices the whole run from pc 0 meets only executable words with all named operands in
 -- range, and leaves only at RETURN, TAILCALL or past the last word
 
 pub theorem-a : (p : Proto) → WellFormed p → (choices : List Bool) → SafeRun p choices
 theorem-a p k choices = runs-safe p k choices
+
+-- ---- runs go as the table of runs says: each way of each kind of word
+
+pub runs-go : map (λ e. run (e .proto) (e .choices)) runExamples ≡ map (λ e. e .expected) runExamples
+runs-go = runs-hold
 
 -- ---- b. ValidForParser, with any incoming numbers: every prototype of the image keeps the rules, and so every run of it is safe
 
@@ -89,71 +100,99 @@ pub theorem-f-limit : (incoming row : ℕ) (v : Walk) (s : Step) → v .ended �
     → advance incoming row v s ≡ record { found = v .found ++ map (inRow row) (s .adds); ended = false }
 theorem-f-limit incoming row v s going h = advance-going incoming row v s going h
 
--- not "binding index clamped rather than reduced"
-pub theorem-f-index : (w : ℕ) → bindingIndex w ≡ operand B w % 256
-unfolding bindingIndex
-theorem-f-index w = refl
+-- and a word's diagnostics are one step
+pub theorem-f-one-step : (p : Proto) (pc : ℕ) → pc < length (p .code) → Some (λ s. s ≡ testedStep (diagnosticsAt p pc)) (protoSteps p)
+theorem-f-one-step p pc h = word-is-one-step p pc h
 
--- ---- the claims are not empty: some prototype breaks each rule, at its first word, and some run is not safe. (For each verdict the table has an image)
+-- (not "binding index clamped rather than reduced": the table, P10 and 511)
+
+-- ---- the walk: "then the children", with a test "before a child". Row by row, it is row 0's own steps, then its children, each with its own first
+
+pub walk-goes-by-children : (i : Image) (r : Row) (rs : List Row) → Accepted i → rows (i .table) ≡ r ∷ rs
+    → imageWalk i ≡ walkChildren (i .warnings + i .errors) (length rs) (r .depth) rs (map protoSteps (protosOf rs (drop (r .words) (u32s (i .words))))) 1 (walkRow (i .warnings + i .errors) 0 start (protoSteps (protoOf r rs (u32s (i .words)))))
+walk-goes-by-children i r rs a e = image-by-children i r rs a e
+
+-- ---- demand 3 of the check call: whatever image and buffers it is called with, if it is not refused, its result says this of the image
+
+pub demand-3 : (i : Image) (roleLength diagnosticLength : ℕ) (c : Checked) → checkAnswer i roleLength diagnosticLength ≡ accepted c → Guarantee i c
+demand-3 i roleLength diagnosticLength c e = check-guaranteed i roleLength diagnosticLength c e
+
+-- ---- the claims are not empty: for each rule a prototype whose first word is executable and breaks it. (For each verdict the table has an image)
 
 abbrev oneWord : ℕ → ℕ → Proto
 oneWord w stack = record { code = w ∷ []; constants = 0; upvalues = 0; stack = stack; children = [] }
 
+-- the first word of any prototype that has one
+first : (w : ℕ) (ws : List ℕ) (p : Proto) → p .code ≡ w ∷ ws → Executable p 0
+first w ws p e = executable p 0 (subst⁻¹ (λ (l : List ℕ). 0 < length l) e (omega arith)) (first-executable p)
+
 -- a SETLIST without the word that it owns
-pub breaks-truncated : RulesAt (oneWord 0x00800022 2) 0 → ⊥
-unfolding isTruncated existing owned claims bindingCount hasExtra wordAt is C only
-breaks-truncated r = r .truncated
+pub breaks-truncated : Executable (oneWord 0x00800022 2) 0 × (T (not (isTruncated (oneWord 0x00800022 2) 0)) → ⊥)
+unfolding isTruncated existing owned claims bindingCount hasExtra wordAt executableAt roleAt roles rolesFrom is C only
+breaks-truncated = (first 0x00800022 [] (oneWord 0x00800022 2) refl, λ k. k)
 
 -- opcode 63
-pub breaks-opcode : RulesAt (oneWord 0x0000003f 2) 0 → ⊥
+pub breaks-opcode : Executable (oneWord 0x0000003f 2) 0 × (T (not (isUnknown (wordAt (oneWord 0x0000003f 2) 0))) → ⊥)
 unfolding isUnknown wordAt
-breaks-opcode r = r .opcode
+breaks-opcode = (first 0x0000003f [] (oneWord 0x0000003f 2) refl, λ k. k)
 
 -- a JMP to before the first word
-pub breaks-jump : RulesAt (oneWord 0x7fff4016 2) 0 → ⊥
+pub breaks-jump : Executable (oneWord 0x7fff4016 2) 0 × (JumpKept (oneWord 0x7fff4016 2) 0 → ⊥)
 unfolding isJump target wordAt is
-breaks-jump r = r .jump .target tt
+breaks-jump = (first 0x7fff4016 [] (oneWord 0x7fff4016 2) refl, λ k. k .target tt)
 
 -- a LOADK of constant 0, where there are none
-pub breaks-constant : RulesAt (oneWord 0x00000001 2) 0 → ⊥
+pub breaks-constant : Executable (oneWord 0x00000001 2) 0 × (Below 0 (constantsOf (wordAt (oneWord 0x00000001 2) 0)) → ⊥)
 unfolding constantsOf constantBx wordAt is only flatten
-breaks-constant r = let h : 0 < 0 = all-head (r .constant) in omega arith
+breaks-constant = (first 0x00000001 [] (oneWord 0x00000001 2) refl, λ k. let h : 0 < 0 = all-head k in omega arith)
 
 -- a GETUPVAL of upvalue 0, where there are none
-pub breaks-upvalue : RulesAt (oneWord 0x00000004 2) 0 → ⊥
+pub breaks-upvalue : Executable (oneWord 0x00000004 2) 0 × (Below 0 (upvalueB (wordAt (oneWord 0x00000004 2) 0)) → ⊥)
 unfolding upvalueB wordAt is B only
-breaks-upvalue r = let h : 0 < 0 = all-head (r .upvalue) in omega arith
+breaks-upvalue = (first 0x00000004 [] (oneWord 0x00000004 2) refl, λ k. let h : 0 < 0 = all-head k in omega arith)
 
 -- an EQ with flag 2
-pub breaks-flag : RulesAt (oneWord 0x00000097 1) 0 → ⊥
+pub breaks-flag : Executable (oneWord 0x00000097 1) 0 × (Below 2 (flagA (wordAt (oneWord 0x00000097 1) 0)) → ⊥)
 unfolding flagA wordAt is only
-breaks-flag r = let h : 2 < 2 = all-head (r .flag) in omega arith
+breaks-flag = (first 0x00000097 [] (oneWord 0x00000097 1) refl, λ k. let h : 2 < 2 = all-head k in omega arith)
 
 -- a RETURN of register 0, where there are none
-pub breaks-register : RulesAt (oneWord 0x0080001e 0) 0 → ⊥
-unfolding registersOf registerA wordAt is only flatten
-breaks-register r = let h : 0 < 0 = all-head (r .register) in omega arith
+pub breaks-register : Executable (oneWord 0x0080001e 0) 0 × (Below 0 (registersOf (wordAt (oneWord 0x0080001e 0) 0)) → ⊥)
+unfolding registersOf registerA isUnknown wordAt is only flatten
+breaks-register = (first 0x0080001e [] (oneWord 0x0080001e 0) refl, λ k. let h : 0 < 0 = all-head k in omega arith)
 
 -- a CLOSURE of child 0, where there are none
-pub breaks-proto : RulesAt (oneWord 0x00000024 2) 0 → ⊥
+pub breaks-proto : Executable (oneWord 0x00000024 2) 0 × (Below 0 (childBx (wordAt (oneWord 0x00000024 2) 0)) → ⊥)
 unfolding childBx wordAt is only
-breaks-proto r = let h : 0 < 0 = all-head (r .proto) in omega arith
+breaks-proto = (first 0x00000024 [] (oneWord 0x00000024 2) refl, λ k. let h : 0 < 0 = all-head k in omega arith)
 
 -- a CLOSURE whose companion is an ADD
-pub breaks-binding : RulesAt (record { code = 0x00000024 ∷ 0x0000000c ∷ []; constants = 0; upvalues = 0; stack = 2; children = 1 ∷ [] }) 0 → ⊥
-unfolding bindingWords existing bindingCount wordAt is
-breaks-binding r = r .binding 0 (omega arith) .opcode
+abbrev boundByAdd : Proto
+boundByAdd = record { code = 0x00000024 ∷ 0x0000000c ∷ []; constants = 0; upvalues = 0; stack = 2; children = 1 ∷ [] }
 
--- a run that leaves to before the first word, and one that meets a word with a register out of range
+pub breaks-binding : Executable boundByAdd 0 × (((j : ℕ) → j < bindingWords boundByAdd 0 → BindingKept boundByAdd (wordAt boundByAdd (0 + 1 + j))) → ⊥)
+unfolding bindingWords existing bindingCount wordAt executableAt roleAt roles rolesFrom isBinding is
+breaks-binding = (first 0x00000024 (0x0000000c ∷ []) boundByAdd refl, λ k. k 0 (omega arith) .opcode)
+
+-- ---- nor is the claim about runs: one that leaves to before the first word, one that meets a word with a register out of range, and one that meets a companion
+
 pub unsafe-exit : SafeRun (oneWord 0x7fff4016 2) (true ∷ []) → ⊥
 unfolding SafeRun run runFrom meet next arrive wordAt is target
 unsafe-exit s = s .exit
 
-pub unsafe-word : SafeRun (oneWord 0x0080001e 0) [] → ⊥
-unfolding SafeRun run runFrom arrive wordAt is registersOf registerA only flatten
-unsafe-word s = let h : 0 < 0 = all-head (all-head (s .met) .operands .register) in omega arith
+pub unsafe-operand : SafeRun (oneWord 0x0080001e 0) [] → ⊥
+unfolding SafeRun run runFrom arrive wordAt is registersOf registerA isUnknown only flatten
+unsafe-operand s = let h : 0 < 0 = all-head (all-head (s .met) .operands .register) in omega arith
+
+-- a JMP to the extra word of a SETLIST
+abbrev jumpsToExtra : Proto
+jumpsToExtra = record { code = 0x80000016 ∷ 0x00000022 ∷ 0x0080001e ∷ []; constants = 0; upvalues = 0; stack = 2; children = [] }
+
+pub unsafe-companion : SafeRun jumpsToExtra (true ∷ []) → ⊥
+unfolding SafeRun run runFrom meet next arrive wordAt is target executableAt roleAt roles rolesFrom claims bindingCount hasExtra C only
+unsafe-companion s = all-head (all-tail (s .met)) .executable
 
 -- and some prototype keeps them all: a RETURN of register 0
 pub keeps-all : WellFormed (oneWord 0x0080001e 1)
-unfolding truncationAt executableAt isTruncated existing owned claims bindingCount hasExtra roleAt roles rolesFrom wordAt diagnosticsAt wordDiagnostics isUnknown knownDiagnostics jumpDiagnostics isJump skipDiagnostics isSkip isLoadboolSkip operandDiagnostics notBelow constantBx upvalueB flagA registerA spanEnds registerIn constantIn childBx bindingWords is B C only flatten flatMap
+unfolding truncationAt executableAt isTruncated existing owned claims bindingCount hasExtra roleAt roles rolesFrom wordAt diagnosticsAt wordDiagnostics opcodeDiagnostics isUnknown knownDiagnostics jumpDiagnostics isJump skipDiagnostics isSkip isLoadboolSkip operandDiagnostics notBelow constantBx upvalueB flagA registerA spanEnds registerIn constantIn childBx bindingWords is B C only flatten flatMap
 keeps-all = well-formed-iff-none (oneWord 0x0080001e 1) .1 (λ pc. elim pc [ zero ↦ λ h. (refl, refl) | suc n ↦ λ h. absurd (not-suc-le-zero (le-of-suc-le-suc h)) ])

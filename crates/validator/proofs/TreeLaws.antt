@@ -1,25 +1,28 @@
 -- The walk row by row is the walk by prototypes and their children, as luad's `validate_proto` goes: a prototype's own steps, then each child with a test
 -- of N before it. Assumes nothing.
-use Prim.Native.Nat.{ℕ, zero, suc, _+_, _≤_, _<_}
-use native.Mathlib.Nat.{add-zero, add-suc, suc-add, not-suc-le-zero, le-of-suc-le-suc, le-refl}
+use Prim.Native.Nat.{ℕ, zero, suc, _+_, _≤_}
+use native.Mathlib.Nat.{add-zero, add-suc, suc-add, not-suc-le-zero, le-refl}
 use native.Mathlib.Omega.{arith}
-use mathlib.Core.Path.{_≡_, refl, sym, _∙_, ap, ap₂}
-use mathlib.Core.Bool.{Bool, true, false, _&&_, _||_, cond}
+use mathlib.Core.Path.{_≡_, refl, sym, _∙_, ap}
+use mathlib.Core.Bool.{Bool, true, false, _||_, cond}
 use mathlib.Core.List.{List, [], _∷_, _++_, map, foldl, flatten}
 use mathlib.Core.Option.{none}
 use lib.Dec.{leb, ltb}
 use lib.ListN.{length, take, drop, length-append, length-map, length-drop}
 use lib.Seq.{take-add, take-length, length-take-le}
-use borrow.Author.Tests.{leb-false, lt-ltb, ltb-true, ltb-false}
-use Rattle.opcodes.specs.Lists.{All, all-nil, all-cons}
-use Rattle.roles.specs.Table.{Row, rows, below, Proto, protosOf, protos}
+use borrow.Author.Tests.{leb-false, ltb-true, ltb-false}
+use Rattle.opcodes.specs.Lists.{All, all-cons}
+use Rattle.opcodes.specs.Bytes.{u32s}
+use Rattle.roles.specs.Table.{Row, rows, below, Proto, protoOf, protosOf, protos}
 use Rattle.roles.specs.Refusals.{badDepth}
 use Rattle.validator.specs.Diagnostics.{Step, testedStep, protoSteps}
 use Rattle.validator.specs.Walk.{Walk, MAX-DIAGNOSTICS, countN, start, advance, walkRow, walkFrom, walk}
+use Rattle.validator.specs.Image.{Image, imageProtos, imageWalk}
+use Rattle.validator.specs.Claims.{Accepted}
 use Rattle.opcodes.proofs.TestLaws.{or-false}
-use Rattle.opcodes.proofs.AllLaws.{all-drop}
-use Rattle.roles.proofs.TableLaws.{below-end, below-next, below-split}
-use Rattle.roles.proofs.RefusalLaws.{depth-kept}
+use Rattle.opcodes.proofs.AllLaws.{all-drop, all-of, all-map}
+use Rattle.roles.proofs.TableLaws.{below-end, below-next, below-split, length-protosOf}
+use Rattle.roles.proofs.RefusalLaws.{depth-kept, image-kept}
 use Rattle.validator.proofs.WalkLaws.{advance-none}
 
 -- ---- tests of N
@@ -155,3 +158,15 @@ walk-by-children incoming r rs steps all e l b =
     ∙ ap (λ (n : ℕ). walkFrom incoming 1 (walkRow incoming 0 start steps) (take n all)) (ap length deep ∙ sym l)
     ∙ ap (walkFrom incoming 1 (walkRow incoming 0 start steps)) (take-length all)
     )
+
+-- of an image: row r with the rows after it
+pub image-by-children : (i : Image) (r : Row) (rs : List Row) → Accepted i → rows (i .table) ≡ r ∷ rs
+    → imageWalk i ≡ walkChildren (i .warnings + i .errors) (length rs) (r .depth) rs (map protoSteps (protosOf rs (drop (r .words) (u32s (i .words))))) 1 (walkRow (i .warnings + i .errors) 0 start (protoSteps (protoOf r rs (u32s (i .words)))))
+unfolding Accepted imageWalk imageProtos protos protosOf
+image-by-children i r rs a e =
+    let kept = image-kept (i .table) (i .words) a in
+    let depths : badDepth 0 0 (r ∷ rs) ≡ none = ap (badDepth 0 0) (sym e) ∙ kept .depths in
+    let later = protosOf rs (drop (r .words) (u32s (i .words))) in
+    ap (λ (l : List Row). walk (i .warnings + i .errors) (map protoSteps (protosOf l (u32s (i .words))))) e
+    ∙ walk-by-children (i .warnings + i .errors) r rs (protoSteps (protoOf r rs (u32s (i .words)))) (map protoSteps later) depths
+    (length-map later protoSteps ∙ length-protosOf rs (drop (r .words) (u32s (i .words)))) (all-map Begins protoSteps (all-of proto-begins later))

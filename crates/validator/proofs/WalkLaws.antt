@@ -1,6 +1,6 @@
 -- The walk and the verdict against the rules. Assumes nothing.
-use Prim.Native.Nat.{ℕ, suc, _+_, _≤_, _<_}
-use native.Mathlib.Nat.{add-zero, add-suc, suc-add}
+use Prim.Native.Nat.{ℕ, zero, suc, _+_, _≤_, _<_}
+use native.Mathlib.Nat.{add-zero, zero-add, add-suc, suc-add, not-suc-le-zero, le-of-suc-le-suc}
 use native.Mathlib.Omega.{arith}
 use mathlib.Core.Path.{_≡_, refl, sym, _∙_, ap, subst, subst⁻¹}
 use mathlib.Core.Logic.{_↔_, _⊎_, inl, inr, ⊎-elim}
@@ -9,7 +9,7 @@ use mathlib.Core.List.{List, [], _∷_, _++_, map, flatMap, flatten, foldl, appe
 use lib.Dec.{T, eqb, leb, ltb, ltb→lt}
 use lib.ListN.{length, length-append, length-map}
 use lib.IntN.{pos, negsuc}
-use borrow.Author.Tests.{lt-leb, leb-false, lt-ltb, le-ltb, eqb-false, ne-eqb}
+use borrow.Author.Tests.{lt-leb, lt-ltb, le-ltb, eqb-false, ne-eqb}
 use Rattle.opcodes.specs.Lists.{All, all-nil, all-cons, only, upFrom, select, keepIf, any, Some, here, there}
 use Rattle.roles.specs.Table.{Proto}
 use Rattle.validator.specs.Diagnostics.{Diagnostic, isError, truncationAt, stackDiagnostics, diagnosticsAt, Step, testedStep, untestedStep, protoSteps}
@@ -67,6 +67,30 @@ walk-clean incoming row v (ss ∷ rest) c =
     let h = walk-clean incoming (suc row) (walkRow incoming row v ss) rest c in
     let k = steps-clean incoming row v ss (h .0) in
     (k .0, all-cons (k .1) (h .1))
+
+-- ---- the diagnostics of a word are one step
+
+some-right : {A : Type 0} {P : A → Type 0} (xs : List A) {ys : List A} → Some P ys → Some P (xs ++ ys)
+some-right [] s = s
+some-right (x ∷ xs) s = there (some-right xs s)
+
+some-left : {A : Type 0} {P : A → Type 0} {xs : List A} (ys : List A) → Some P xs → Some P (xs ++ ys)
+some-left ys (here h) = here h
+some-left ys (there s) = there (some-left ys s)
+
+some-upFrom : {A : Type 0} (f : ℕ → A) (i n k : ℕ) → k < n → Some (λ x. x ≡ f (i + k)) (map f (upFrom i n))
+some-upFrom f i zero k h = absurd (not-suc-le-zero h)
+some-upFrom f i (suc n) zero h = here (ap f (sym (add-zero i)))
+some-upFrom f i (suc n) (suc k) h =
+    subst (λ (m : ℕ). Some (λ x. x ≡ f m) (map f (upFrom i (suc n)))) (suc-add i k ∙ sym (add-suc i k)) (there (some-upFrom f (suc i) n k (le-of-suc-le-suc h)))
+
+pub word-is-one-step : (p : Proto) (pc : ℕ) → pc < length (p .code) → Some (λ s. s ≡ testedStep (diagnosticsAt p pc)) (protoSteps p)
+unfolding protoSteps flatten
+word-is-one-step p pc h =
+    let pcs = upFrom 0 (length (p .code)) in
+    let word : ℕ → Step = λ at. testedStep (diagnosticsAt p at) in
+    let found : Some (λ s. s ≡ word pc) (map word pcs) = subst (λ (m : ℕ). Some (λ s. s ≡ word m) (map word pcs)) (zero-add pc) (some-upFrom word 0 (length (p .code)) pc h) in
+    there (some-right (map (λ d. testedStep (d ∷ [])) (flatMap (truncationAt p) pcs)) (there (some-left [] found)))
 
 -- ---- a walk over well-formed prototypes
 

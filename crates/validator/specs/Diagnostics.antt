@@ -1,7 +1,7 @@
 -- The diagnostics of one prototype, with no limit (document 01, "Findings"; luad's validator.rs). Assumes nothing: these are definitions.
 use Prim.Native.Nat.{ℕ, _+_}
 use mathlib.Core.Bool.{Bool, true, false, _&&_, cond, not}
-use mathlib.Core.List.{List, [], _∷_, map, flatMap, flatten}
+use mathlib.Core.List.{List, [], _∷_, _++_, map, flatMap, flatten}
 use lib.Dec.{eqb, ltb, leb}
 use lib.ListN.{length}
 use lib.IntN.{ℤ, pos, negsuc}
@@ -37,6 +37,10 @@ unfoldable pub stackDiagnostics : Proto → List Diagnostic
 stackDiagnostics p = only (ltb 250 (p .stack)) (record { pc = negsuc 0; code = 3; value = pos (p .stack) })
 
 -- ---- of an executable word
+
+-- code 4
+unfoldable pub opcodeDiagnostics : ℕ → ℕ → List Diagnostic
+opcodeDiagnostics pc w = only (isUnknown w) (diagnostic pc 4 (pos (opcode w)))
 
 -- codes 5 and 6 for a target: "negative or not below the word count"; "else a companion there"
 unfoldable pub targetDiagnostics : Proto → ℕ → ℤ → List Diagnostic
@@ -99,9 +103,9 @@ knownDiagnostics p pc w =
     ∷ []
     )
 
--- codes 4 to 17: of an unknown opcode code 4 and "nothing more for this word"
+-- codes 4 to 17: after code 4 "nothing more for this word"
 unfoldable pub wordDiagnostics : Proto → ℕ → ℕ → List Diagnostic
-wordDiagnostics p pc w = cond (isUnknown w) (diagnostic pc 4 (pos (opcode w)) ∷ []) (knownDiagnostics p pc w)
+wordDiagnostics p pc w = opcodeDiagnostics pc w ++ cond (isUnknown w) [] (knownDiagnostics p pc w)
 
 -- of the word at pc: a companion has none, nor a pc without a word
 unfoldable pub diagnosticsAt : Proto → ℕ → List Diagnostic

@@ -80,15 +80,15 @@ module _ (old : List ℕ) (at : ℕ) (new more : List ℕ) (fits : at + length n
       ∙ drop-append-add (take at old ++ new) (drop (at + length new) old) (length more)
       ∙ drop-drop (length more) (at + length new) old
 
-  next-parts : take (at + length new) (take at old ++ new ++ drop (at + length new) old) ++ more ++ drop (at + length new + length more) (take at old ++ new ++ drop (at + length new) old) ≡ take at old ++ (new ++ more) ++ drop (at + length (new ++ more)) old
-  next-parts =
+  next-pieces : take (at + length new) (take at old ++ new ++ drop (at + length new) old) ++ more ++ drop (at + length new + length more) (take at old ++ new ++ drop (at + length new) old) ≡ take at old ++ (new ++ more) ++ drop (at + length (new ++ more)) old
+  next-pieces =
       rw (take-at (take at old ++ new) (drop (at + length new) old) (at + length new) front-length, tail-kept, append-assoc (take at old) new more, length-append new more, ← add-assoc)
 
   pub overwrite-next : overwrite (overwrite old at new) (at + length new) more ≡ overwrite old at (new ++ more)
   overwrite-next =
       ap (λ (l : List ℕ). overwrite l (at + length new) more) (overwrite-fits old at new (omega arith))
       ∙ overwrite-fits (take at old ++ new ++ drop (at + length new) old) (at + length new) more (simp (length-append, length-take, length-drop) (omega arith))
-      ∙ next-parts
+      ∙ next-pieces
       ∙ sym (overwrite-fits old at (new ++ more) (omega (arith, length-append new more)))
 
 -- ---- a record, value by value

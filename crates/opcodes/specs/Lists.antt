@@ -1,6 +1,6 @@
 -- Tests and lists that the other files share. Assumes nothing: these are definitions.
 use Prim.Native.Nat.{ℕ, zero, suc, _+_}
-use mathlib.Core.Bool.{Bool, true, false, _||_}
+use mathlib.Core.Bool.{Bool, true, false, _&&_, _||_}
 use mathlib.Core.List.{List, [], _∷_, map}
 use lib.Dec.{eqb}
 
@@ -52,6 +52,11 @@ module _ {ℓ} {A : Type ℓ} where
   abbrev pub any : (A → Bool) → List A → Bool
   any f [] = false
   any f (x ∷ xs) = f x || any f xs
+
+  -- each of a list passes a test
+  abbrev pub every : (A → Bool) → List A → Bool
+  every f [] = true
+  every f (x ∷ xs) = f x && every f xs
 
 -- P holds of each of a list
 pub data All {A : Type 0} (P : A → Type 0) : List A → Type 0 where

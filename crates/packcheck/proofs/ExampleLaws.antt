@@ -7,7 +7,7 @@ use Rattle.opcodes.specs.Words.{B, C, is, isConstant, constantIndex}
 use Rattle.roles.specs.Table.{rowAt, rows, below, children, protoOf, protosOf, protos}
 use Rattle.roles.specs.Roles.{bindingCount, hasExtra, claims, rolesFrom, roles, roleAt, wordAt, executableAt, owned, existing, isTruncated, companions, bindingWords}
 use Rattle.validator.specs.Operands.{isUnknown, isBinding, isJump, target, isLoadboolSkip, isSkip, skipTarget, constantBx, upvalueB, flagA, registerA, spanEnds, registerIn, constantIn, childBx, capturedRegister, capturedUpvalue}
-use Rattle.validator.specs.Diagnostics.{truncationAt, stackDiagnostics, opcodeDiagnostics, targetDiagnostics, jumpDiagnostics, skipDiagnostics, notBelow, operandDiagnostics, opcodeValue, bindingDiagnostics, knownDiagnostics, wordDiagnostics, diagnosticsAt, testedStep, untestedStep, protoSteps}
+use Rattle.validator.specs.Diagnostics.{truncationAt, hasLargeStack, stackDiagnostics, opcodeDiagnostics, targetDiagnostics, jumpDiagnostics, skipDiagnostics, notBelow, operandDiagnostics, opcodeValue, bindingDiagnostics, knownDiagnostics, wordDiagnostics, diagnosticsAt, testedStep, untestedStep, protoSteps}
 use Rattle.validator.specs.Walk.{advance, walkRow, walkFrom, walk, limitReached, hasErrors, verdictOf}
 use Rattle.validator.specs.Image.{imageProtos, imageWalk, diagnostics, verdict}
 use Rattle.roles.specs.Refusals.{refuse, refuseIf, orElse, depthFits, badDepth, fieldsFit, badField, wordTotal, imageRefusal, rolesRefusal, tooShort}
@@ -19,5 +19,5 @@ use Rattle.packcheck.specs.Packcheck.{codeNames, codeName, verdictName, 
 use Rattle.packcheck.specs.Examples.{texts, listing, examples}
 
 pub examples-hold : map (λ e. packcheck (e .input)) examples ≡ map (λ e. e .output) examples
-unfolding examples texts listing only u32Bytes u32Record u32s u32At B C is isConstant constantIndex rowAt rows below children protoOf protosOf protos bindingCount hasExtra claims rolesFrom roles roleAt wordAt executableAt owned existing isTruncated companions bindingWords isUnknown isBinding isJump target isLoadboolSkip isSkip skipTarget constantBx upvalueB flagA registerA spanEnds registerIn constantIn childBx capturedRegister capturedUpvalue truncationAt stackDiagnostics opcodeDiagnostics targetDiagnostics jumpDiagnostics skipDiagnostics notBelow operandDiagnostics opcodeValue bindingDiagnostics knownDiagnostics wordDiagnostics diagnosticsAt testedStep untestedStep protoSteps advance walkRow walkFrom walk limitReached hasErrors verdictOf imageProtos imageWalk diagnostics verdict flatMap flatten refuse refuseIf orElse depthFits badDepth fieldsFit badField wordTotal imageRefusal rolesRefusal tooShort answer checked checkRefusal checkAnswer text same joinFirst lines line isDigit isHexDigit digitValue valueOf isDecimal digits decimal integer named separator consNumber decimals hexWord andThen refusedAt readAs readLine readRows readWords readListing codeNames codeName verdictName refusalText diagnosticText resultText answerText outputText packcheck
+unfolding examples texts listing only u32Bytes u32Record u32s u32At B C is isConstant constantIndex rowAt rows below children protoOf protosOf protos bindingCount hasExtra claims rolesFrom roles roleAt wordAt executableAt owned existing isTruncated companions bindingWords isUnknown isBinding isJump target isLoadboolSkip isSkip skipTarget constantBx upvalueB flagA registerA spanEnds registerIn constantIn childBx capturedRegister capturedUpvalue truncationAt hasLargeStack stackDiagnostics opcodeDiagnostics targetDiagnostics jumpDiagnostics skipDiagnostics notBelow operandDiagnostics opcodeValue bindingDiagnostics knownDiagnostics wordDiagnostics diagnosticsAt testedStep untestedStep protoSteps advance walkRow walkFrom walk limitReached hasErrors verdictOf imageProtos imageWalk diagnostics verdict flatMap flatten refuse refuseIf orElse depthFits badDepth fieldsFit badField wordTotal imageRefusal rolesRefusal tooShort answer checked checkRefusal checkAnswer text same joinFirst lines line isDigit isHexDigit digitValue valueOf isDecimal digits decimal integer named separator consNumber decimals hexWord andThen refusedAt readAs readLine readRows readWords readListing codeNames codeName verdictName refusalText diagnosticText resultText answerText outputText packcheck
 examples-hold = refl

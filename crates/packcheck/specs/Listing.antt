@@ -2,12 +2,12 @@
 -- Assumes nothing: these are definitions.
 use Prim.Native.Nat.{ℕ, zero, suc, _+_, _-_}
 use Prim.Native.String.{String}
-use mathlib.Core.Bool.{_&&_, cond, not}
+use mathlib.Core.Bool.{_&&_, cond}
 use mathlib.Core.List.{List, [], _∷_, flatten}
 use mathlib.Core.Option.{Option, none, some}
 use lib.Dec.{eqb}
 use lib.ListN.{length, getD, take, drop}
-use Rattle.opcodes.specs.Lists.{takeWhile, any}
+use Rattle.opcodes.specs.Lists.{takeWhile, every}
 use Rattle.opcodes.specs.Bytes.{u32Record}
 use Rattle.roles.specs.Table.{rowFields}
 use Rattle.roles.specs.Refusals.{Refused}
@@ -42,7 +42,7 @@ decimals (suc left) cs =
 -- "words are eight lower-case hexadecimal digits"
 unfoldable pub hexWord : List ℕ → Option ℕ
 hexWord l =
-    cond (eqb (length l) 9 && not (any (λ c. not (isHexDigit c)) (take 8 l)) && eqb (getD l 8 0) newline) (some (valueOf 16 (take 8 l))) none
+    cond (eqb (length l) 9 && every isHexDigit (take 8 l) && eqb (getD l 8 0) newline) (some (valueOf 16 (take 8 l))) none
 
 -- ---- reading
 

@@ -9,11 +9,15 @@ use Rattle.roles.specs.Roles.{bindingCount, hasExtra, claims, rolesFrom,
 use Rattle.roles.specs.Bindings.{unbound, bindingIndex, writeOf, writesAt, writes, bindingTotal, firstBinding, setBinding, bindRows, bindings, bindingFields}
 use Rattle.roles.specs.Refusals.{refuse, refuseIf, orElse, depthFits, badDepth, fieldsFit, badField, wordTotal, imageRefusal, rolesRefusal, tooShort}
 use Rattle.roles.specs.Calls.{imageBindings, bindingsRefusal}
-use Rattle.roles.specs.Examples.{records, examples, refusalOf, refusals}
+use Rattle.roles.specs.Examples.{rolesOf, bindingsOf, examples, refusalOf, refusals}
 
-pub examples-hold : map records examples ≡ map (λ e. e .expected) examples
-unfolding examples records only u32Bytes u32Record u32s u32At B C is rowAt rows below children childAt protoOf protosOf protos bindingCount hasExtra claims rolesFrom roles roleAt wordAt executableAt existing bindingWords roleFields roleRecords unbound bindingIndex writeOf writesAt writes bindingTotal firstBinding setBinding bindRows bindings bindingFields imageBindings flatMap
-examples-hold = refl
+pub roles-hold : map rolesOf examples ≡ map (λ e. e .roles) examples
+unfolding examples rolesOf only u32Bytes u32Record u32s u32At B C is rowAt rows below children protoOf protosOf protos bindingCount hasExtra claims rolesFrom roles roleFields roleRecords flatMap
+roles-hold = refl
+
+pub bindings-hold : map bindingsOf examples ≡ map (λ e. e .bindings) examples
+unfolding examples bindingsOf only u32Bytes u32Record u32s u32At B C is rowAt rows below children childAt protoOf protosOf protos bindingCount hasExtra claims rolesFrom roles roleAt wordAt executableAt existing bindingWords unbound bindingIndex writeOf writesAt writes bindingTotal firstBinding setBinding bindRows bindings bindingFields imageBindings flatMap
+bindings-hold = refl
 
 pub refusals-hold : map refusalOf refusals ≡ map (λ e. e .expected) refusals
 unfolding refusals refusalOf only u32Bytes u32Record u32s u32At B C is rowAt rows below children childAt protoOf protosOf bindingCount hasExtra claims rolesFrom roles roleAt wordAt executableAt existing bindingWords unbound bindingIndex writeOf writesAt writes bindingTotal firstBinding setBinding bindRows bindings imageBindings refuse refuseIf orElse depthFits badDepth fieldsFit badField wordTotal imageRefusal rolesRefusal tooShort bindingsRefusal flatMap

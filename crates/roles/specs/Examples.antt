@@ -13,24 +13,21 @@ use Rattle.roles.specs.Calls.{imageBindings, bindingsRefusal}
 
 -- ---- roles and bindings
 
-pub record Records : Type 0 where
-  pub roles : List ℤ
-  pub bindings : List ℤ
-
--- an image by its rows, depth, words, constants, upvalues and stack each, and its words
+-- an image by its rows, depth, words, constants, upvalues and stack each, and its words; and its role and binding records
 pub record Example : Type 0 where
   pub rows : List ℕ
   pub words : List ℕ
-  pub expected : Records
+  pub roles : List ℤ
+  pub bindings : List ℤ
 
-unfoldable pub records : Example → Records
-records e =
-    let table = u32Record (e .rows) in
-    let words = u32Record (e .words) in
-    record { roles = roleRecords (protos table words); bindings = flatMap bindingFields (imageBindings table words) }
+unfoldable pub rolesOf : Example → List ℤ
+rolesOf e = roleRecords (protos (u32Record (e .rows)) (u32Record (e .words)))
+
+unfoldable pub bindingsOf : Example → List ℤ
+bindingsOf e = flatMap bindingFields (imageBindings (u32Record (e .rows)) (u32Record (e .words)))
 
 abbrev example : List ℕ → List ℕ → List ℤ → List ℤ → Example
-example rows words roles bindings = record { rows = rows; words = words; expected = record { roles = roles; bindings = bindings } }
+example rows words roles bindings = record { rows = rows; words = words; roles = roles; bindings = bindings }
 
 abbrev instruction : List ℤ
 instruction = negsuc 0 ∷ negsuc 0 ∷ []
@@ -47,28 +44,32 @@ bound instack index pc = pos instack ∷ pos index ∷ pos pc ∷ []
 abbrev start : List ℤ
 start = pos 0 ∷ pos 0 ∷ negsuc 0 ∷ []
 
--- a row of so many words, and its child of so many upvalues, without words
-abbrev parent : ℕ → ℕ → List ℕ
-parent words upvalues = 0 ∷ words ∷ 0 ∷ 0 ∷ 2 ∷ 1 ∷ 0 ∷ 0 ∷ upvalues ∷ 2 ∷ []
+-- a row of the table
+abbrev row : ℕ → ℕ → ℕ → ℕ → ℕ → List ℕ
+row depth words constants upvalues stack = depth ∷ words ∷ constants ∷ upvalues ∷ stack ∷ []
+
+-- so many words, and a child of so many upvalues that holds a RETURN
+abbrev parent : ℕ → List ℕ → ℕ → List ℤ → List ℤ → Example
+parent n words upvalues roles bindings = example (row 0 n 0 0 2 ++ row 1 1 0 upvalues 2) (words ++ 0x0080001e ∷ []) (roles ++ instruction) bindings
 
 unfoldable pub examples : List Example
 examples =
     -- P10: the index is B modulo 256. P11: nothing binds
-    example (parent 2 1) (0x00000024 ∷ 0x96000000 ∷ []) (instruction ++ companion 0 0) (bound 1 44 1)
-    ∷ example (parent 1 1) (0x00000024 ∷ []) instruction start
+    parent 2 (0x00000024 ∷ 0x96000000 ∷ []) 1 (instruction ++ companion 0 0) (bound 1 44 1)
+    ∷ parent 1 (0x00000024 ∷ []) 1 instruction start
     -- truncated, with one of two companions: it is marked, and binds
-    ∷ example (parent 2 2) (0x00000024 ∷ 0x02000004 ∷ []) (instruction ++ companion 0 0) (bound 0 4 1 ++ start)
+    ∷ parent 2 (0x00000024 ∷ 0x02000004 ∷ []) 2 (instruction ++ companion 0 0) (bound 0 4 1 ++ start)
     -- a companion, of a CLOSURE or of a SETLIST, that looks like a CLOSURE owns nothing, and leaves its binding
-    ∷ example (parent 3 1) (0x00000024 ∷ 0x00000024 ∷ 0x0080001e ∷ []) (instruction ++ companion 0 0 ++ instruction) start
-    ∷ example (parent 3 1) (0x00800022 ∷ 0x00000024 ∷ 0x0080001e ∷ []) (instruction ++ extra 0 ++ instruction) start
+    ∷ parent 3 (0x00000024 ∷ 0x00000024 ∷ 0x0080001e ∷ []) 1 (instruction ++ companion 0 0 ++ instruction) start
+    ∷ parent 3 (0x00800022 ∷ 0x00000024 ∷ 0x0080001e ∷ []) 1 (instruction ++ extra 0 ++ instruction) start
     -- a later CLOSURE overwrites, and leaves what it does not bind
-    ∷ example (parent 6 2) (0x00000024 ∷ 0x00800000 ∷ 0x01000000 ∷ 0x00000024 ∷ 0x01800004 ∷ 0x0000003f ∷ [])
+    ∷ parent 6 (0x00000024 ∷ 0x00800000 ∷ 0x01000000 ∷ 0x00000024 ∷ 0x01800004 ∷ 0x0000003f ∷ []) 2
     (instruction ++ companion 0 0 ++ companion 0 1 ++ instruction ++ companion 3 0 ++ companion 3 1) (bound 0 3 4 ++ bound 1 2 2)
     -- child 1 is the next row one deeper, not the first child's own child; a CLOSURE whose child is missing owns nothing
-    ∷ example (0 ∷ 4 ∷ 0 ∷ 0 ∷ 2 ∷ 1 ∷ 0 ∷ 0 ∷ 2 ∷ 2 ∷ 2 ∷ 0 ∷ 0 ∷ 2 ∷ 2 ∷ 1 ∷ 0 ∷ 0 ∷ 1 ∷ 2 ∷ []) (0x00004024 ∷ 0x00800000 ∷ 0x00008024 ∷ 0x0080001e ∷ [])
+    ∷ example (row 0 4 0 0 2 ++ row 1 0 0 2 2 ++ row 2 0 0 2 2 ++ row 1 0 0 1 2) (0x00004024 ∷ 0x00800000 ∷ 0x00008024 ∷ 0x0080001e ∷ [])
     (instruction ++ companion 0 0 ++ instruction ++ instruction) (start ++ start ++ start ++ start ++ bound 1 1 1)
     -- the words of a second row stand after those of the first, and its pcs begin at 0
-    ∷ example (0 ∷ 1 ∷ 0 ∷ 0 ∷ 2 ∷ 1 ∷ 2 ∷ 0 ∷ 0 ∷ 2 ∷ []) (0x0080001e ∷ 0x00800022 ∷ 0x00000007 ∷ []) (instruction ++ instruction ++ extra 0) []
+    ∷ example (row 0 1 0 0 2 ++ row 1 2 0 0 2) (0x0080001e ∷ 0x00800022 ∷ 0x00000007 ∷ []) (instruction ++ instruction ++ extra 0) []
     ∷ []
 
 -- ---- refusals, of the bindings call, which has all eight
@@ -90,23 +91,23 @@ judged rows words roleLength bindingLength expected =
 unfoldable pub refusals : List RefusalExample
 refusals =
     -- an exact fit, and one byte less in either buffer: 7 before 8, and 8 tells the records needed
-    judged (parent 1 2) (0x0080001e ∷ []) 8 24 none
-    ∷ judged (parent 1 2) (0x0080001e ∷ []) 8 23 (refuse 8 2)
-    ∷ judged (parent 1 2) (0x0080001e ∷ []) 7 23 (refuse 7 0)
+    judged (row 0 1 0 0 2 ++ row 1 0 0 2 2) (0x0080001e ∷ []) 8 24 none
+    ∷ judged (row 0 1 0 0 2 ++ row 1 0 0 2 2) (0x0080001e ∷ []) 8 23 (refuse 8 2)
+    ∷ judged (row 0 1 0 0 2 ++ row 1 0 0 2 2) (0x0080001e ∷ []) 7 23 (refuse 7 0)
     -- 1, 2: no bytes, and bytes that are no whole row
     ∷ judged [] [] 0 0 (refuse 1 0)
     ∷ judged (0 ∷ 0 ∷ 0 ∷ 0 ∷ []) [] 0 0 (refuse 2 0)
     -- 4: depth 0 and then 2; a second row of depth 0; row 0 of depth 1, before a field over its limit
-    ∷ judged (0 ∷ 0 ∷ 0 ∷ 0 ∷ 0 ∷ 2 ∷ 0 ∷ 0 ∷ 0 ∷ 0 ∷ []) [] 0 0 (refuse 4 1)
-    ∷ judged (0 ∷ 0 ∷ 0 ∷ 0 ∷ 0 ∷ 0 ∷ 0 ∷ 0 ∷ 0 ∷ 0 ∷ []) [] 0 0 (refuse 4 1)
-    ∷ judged (1 ∷ 0 ∷ 2147483648 ∷ 0 ∷ 0 ∷ []) [] 0 0 (refuse 4 0)
+    ∷ judged (row 0 0 0 0 0 ++ row 2 0 0 0 0) [] 0 0 (refuse 4 1)
+    ∷ judged (row 0 0 0 0 0 ++ row 0 0 0 0 0) [] 0 0 (refuse 4 1)
+    ∷ judged (row 1 0 2147483648 0 0) [] 0 0 (refuse 4 0)
     -- 5: each field at its limit, and above it, before a wrong word count
-    ∷ judged (0 ∷ 0 ∷ 2147483647 ∷ 0 ∷ 255 ∷ 1 ∷ 0 ∷ 0 ∷ 255 ∷ 0 ∷ []) [] 0 3060 none
-    ∷ judged (0 ∷ 1 ∷ 2147483648 ∷ 0 ∷ 0 ∷ []) [] 0 0 (refuse 5 0)
-    ∷ judged (0 ∷ 1 ∷ 0 ∷ 0 ∷ 0 ∷ 1 ∷ 0 ∷ 0 ∷ 256 ∷ 0 ∷ []) [] 0 0 (refuse 5 1)
-    ∷ judged (0 ∷ 1 ∷ 0 ∷ 0 ∷ 256 ∷ []) [] 0 0 (refuse 5 0)
+    ∷ judged (row 0 0 2147483647 0 255 ++ row 1 0 0 255 0) [] 0 3060 none
+    ∷ judged (row 0 1 2147483648 0 0) [] 0 0 (refuse 5 0)
+    ∷ judged (row 0 1 0 0 0 ++ row 1 0 0 256 0) [] 0 0 (refuse 5 1)
+    ∷ judged (row 0 1 0 0 256) [] 0 0 (refuse 5 0)
     -- 6: fewer words, and more, than the rows state; word counts that add up to 2 ^ 32
-    ∷ judged (0 ∷ 1 ∷ 0 ∷ 0 ∷ 0 ∷ []) [] 0 0 (refuse 6 0)
-    ∷ judged (0 ∷ 0 ∷ 0 ∷ 0 ∷ 0 ∷ []) (0 ∷ []) 0 0 (refuse 6 0)
-    ∷ judged (0 ∷ 4294967295 ∷ 0 ∷ 0 ∷ 0 ∷ 1 ∷ 1 ∷ 0 ∷ 0 ∷ 0 ∷ []) [] 0 0 (refuse 6 0)
+    ∷ judged (row 0 1 0 0 0) [] 0 0 (refuse 6 0)
+    ∷ judged (row 0 0 0 0 0) (0 ∷ []) 0 0 (refuse 6 0)
+    ∷ judged (row 0 4294967295 0 0 0 ++ row 1 1 0 0 0) [] 0 0 (refuse 6 0)
     ∷ []

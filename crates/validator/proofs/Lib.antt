@@ -1,6 +1,6 @@
-pub mod CheckLaws
 pub mod ExampleLaws
 pub mod ExecutionLaws
+pub mod GuaranteeLaws
 pub mod LimitLaws
 pub mod MostLaws
 pub mod RuleLaws

@@ -17,10 +17,10 @@ use Rattle.roles.proofs.RefusalLaws.{image-kept}
 use Rattle.roles.proofs.TableLaws.{children-most}
 use Rattle.roles.specs.Roles.{isExecutable, roleAt, executableAt, wordAt, bindingCount, existing, bindingWords}
 use Rattle.validator.specs.Operands.{isUnknown, isBinding, isJump, target, isSkip, isLoadboolSkip, skipTarget, constantBx, upvalueB, flagA, registerA, spanEnds, registerIn, constantIn, childBx, capturedRegister, capturedUpvalue}
-use Rattle.validator.specs.Diagnostics.{Diagnostic, diagnostic, opcodeValue, notBelow, truncationAt, stackDiagnostics, opcodeDiagnostics, targetDiagnostics, jumpDiagnostics, skipDiagnostics, bindingDiagnostics, operandDiagnostics, knownDiagnostics, wordDiagnostics, diagnosticsAt, Step, testedStep, untestedStep, protoSteps}
+use Rattle.validator.specs.Diagnostics.{Diagnostic, diagnostic, opcodeValue, notBelow, truncationAt, hasLargeStack, stackDiagnostics, opcodeDiagnostics, targetDiagnostics, jumpDiagnostics, skipDiagnostics, bindingDiagnostics, operandDiagnostics, knownDiagnostics, wordDiagnostics, diagnosticsAt, Step, testedStep, untestedStep, protoSteps}
 use Rattle.validator.specs.Walk.{inRow, Walk, MAX-DIAGNOSTICS, countN, start, advance, walkRow, walkFrom, walk}
 use Rattle.validator.specs.Image.{Image, imageProtos, imageWalk, diagnostics}
-use Rattle.validator.specs.Claims.{Accepted}
+use Rattle.validator.specs.Statements.{Accepted}
 use Rattle.opcodes.proofs.AllLaws.{all-getD, all-imp}
 use Rattle.opcodes.proofs.ListLaws.{length-upFrom}
 use Rattle.opcodes.proofs.TestLaws.{is-not, is-among, true≢false, or-false, T-true, by-cond, disjoint}
@@ -260,7 +260,7 @@ row-within incoming row p v h k =
     let third = step second (untestedStep (stackDiagnostics p)) in
     let a : Within 10000 first = within-more (omega arith) (tested-within incoming row 10255 0 v [] k (omega arith) (omega arith)) in
     let b : Within 10000 second = steps-within incoming row 1 (λ d. d ∷ []) (λ d. omega arith) (omega arith) cuts first a in
-    let c : Within 10001 third = untested-within incoming row 10000 1 second (stackDiagnostics p) b (only-most (ltb 250 (p .stack)) _) (omega arith) in
+    let c : Within 10001 third = untested-within incoming row 10000 1 second (stackDiagnostics p) b (only-most (hasLargeStack p) _) (omega arith) in
     let d = steps-within incoming row 256 (diagnosticsAt p) (λ pc. word-most p pc h) (omega arith) pcs third (within-more (omega arith) c) in
     rw (append-nil, foldl-append) d
 

@@ -16,7 +16,7 @@ use Rattle.roles.specs.Table.{Proto}
 use Rattle.roles.specs.Roles.{Role, Instruction, ClosureBinding, bindingCount, hasExtra, claims, rolesFrom, roles, roleAt, wordAt, executableAt, Executable, owned, existing, isTruncated, bindingWords}
 use Rattle.validator.specs.Operands.{isUnknown, isBinding, isJump, isSkip, isLoadboolSkip, constantBx, upvalueB, flagA, registerA, spanEnds, registerIn, constantIn, childBx, capturedRegister, capturedUpvalue}
 use Rattle.validator.specs.Diagnostics.{Diagnostic, truncationAt, opcodeDiagnostics, jumpDiagnostics, skipDiagnostics, notBelow, operandDiagnostics, bindingDiagnostics, knownDiagnostics, wordDiagnostics, diagnosticsAt}
-use Rattle.validator.specs.Diagnostics.{Step, testedStep, untestedStep, stackDiagnostics, protoSteps}
+use Rattle.validator.specs.Diagnostics.{Step, testedStep, untestedStep, hasLargeStack, stackDiagnostics, protoSteps}
 use Rattle.validator.specs.Walk.{inRow, Walk, MAX-DIAGNOSTICS, countN, start, advance, walkRow, walkFrom, walk}
 use Rattle.validator.proofs.WalkLaws.{advance-going}
 use Rattle.validator.proofs.TreeLaws.{Begins, begins, advance-ended, proto-begins}
@@ -24,7 +24,7 @@ use Rattle.opcodes.specs.Bytes.{u32At, u32Bytes, u32Record}
 use Rattle.roles.specs.Table.{rowAt, rows, below, children, protoOf, protosOf, protos}
 use Rattle.roles.specs.Refusals.{refuseIf, orElse, depthFits, badDepth, fieldsFit, badField, wordTotal, imageRefusal}
 use Rattle.validator.specs.Image.{Image, imageProtos, imageWalk, diagnostics}
-use Rattle.validator.specs.Claims.{Accepted}
+use Rattle.validator.specs.Statements.{Accepted}
 use Rattle.opcodes.proofs.ByteLaws.{length-u32Record, u32s-record}
 use Rattle.opcodes.proofs.AllLaws.{all-append, all-upFrom, all-upTo, flatMap-none}
 use Rattle.opcodes.proofs.ListLaws.{length-upFrom, length-tabulate}
@@ -208,7 +208,7 @@ pcs-split n m = ap (upFrom 0) (length-code n m) ∙ upFrom-add 0 n (suc m) ∙ r
 full-steps : (n m : ℕ)
     → protoSteps (fullProto n m)
     ≡ testedStep [] ∷ untestedStep [] ∷ (map (λ pc. testedStep (diagnosticsAt (fullProto n m) pc)) (upFrom 0 n) ++ map (λ pc. testedStep (diagnosticsAt (fullProto n m) pc)) (n ∷ upFrom (suc n) m))
-unfolding protoSteps flatten stackDiagnostics only fullProto
+unfolding protoSteps flatten stackDiagnostics hasLargeStack only fullProto
 full-steps n m =
     let p = fullProto n m in
     let uncut : flatMap (truncationAt p) (upFrom 0 (length (p .code))) ≡ [] =

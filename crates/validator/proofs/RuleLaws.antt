@@ -16,7 +16,7 @@ use Rattle.roles.specs.Table.{Proto}
 use Rattle.roles.specs.Roles.{isExecutable, executableAt, Executable, roleAt, wordAt, owned, existing, isTruncated, bindingWords}
 use Rattle.validator.specs.Operands.{isUnknown, isBinding, isJump, target, isSkip, skipTarget, constantBx, upvalueB, flagA, registerA, spanEnds, registerIn, constantIn, childBx, capturedRegister, capturedUpvalue}
 use Rattle.validator.specs.Diagnostics.{Diagnostic, diagnostic, isError, notBelow, truncationAt, opcodeDiagnostics, targetDiagnostics, jumpDiagnostics, skipDiagnostics, bindingDiagnostics, operandDiagnostics, knownDiagnostics, wordDiagnostics, diagnosticsAt}
-use Rattle.validator.specs.Claims.{RulesByCodes}
+use Rattle.validator.specs.Statements.{RulesByCodes}
 use Rattle.validator.specs.Rules.{Below, registersOf, constantsOf, Lands, BindingKept, RulesAt, WellFormed}
 use Rattle.opcodes.proofs.AllLaws.{all-left, all-right, all-head, all-tail, all-flatten, flatten-all}
 use Rattle.opcodes.proofs.TestLaws.{T-true, not-not, double-not, by-cond}

@@ -22,8 +22,8 @@ use Rattle.validator.specs.Image.{Image, imageProtos, imageWalk, diagnos
 use Rattle.validator.specs.Check.{Checked, checkAnswer}
 use Rattle.validator.specs.Rules.{Below, registersOf, constantsOf, JumpKept, BindingKept, WellFormed}
 use Rattle.validator.specs.Executions.{arrive, next, meet, runFrom, run, SafeRun}
-use Rattle.validator.specs.Claims.{Accepted, largeStacks, IsError, RulesByCodes, Passed, Guarantee}
-use Rattle.validator.specs.Examples.{result, examples, runExamples}
+use Rattle.validator.specs.Statements.{Accepted, largeStacks, IsError, RulesByCodes, Passed, Guarantee}
+use Rattle.validator.specs.Examples.{result, examples, misreadings, runExamples}
 use Rattle.opcodes.proofs.AllLaws.{all-head, all-tail, all-imp}
 use Rattle.roles.proofs.RoleLaws.{executable, first-executable, owned-role, companion-unread}
 use Rattle.validator.proofs.RuleLaws.{well-formed-iff-none, rules-by-codes}
@@ -32,8 +32,8 @@ use Rattle.validator.proofs.WalkLaws.{valid-well-formed, well-formed-va
 use Rattle.validator.proofs.LimitLaws.{at-most}
 use Rattle.validator.proofs.MostLaws.{fullest, fullest-accepted, fullest-count}
 use Rattle.validator.proofs.TreeLaws.{walkChildren, image-by-children}
-use Rattle.validator.proofs.CheckLaws.{check-guaranteed}
-use Rattle.validator.proofs.ExampleLaws.{examples-hold, runs-hold}
+use Rattle.validator.proofs.GuaranteeLaws.{check-guaranteed}
+use Rattle.validator.proofs.ExampleLaws.{examples-hold, misreadings-excluded, runs-hold}
 
 -- ---- the rules are the conditions of the diagnostics
 
@@ -83,8 +83,11 @@ theorem-e-reached = (fullest-accepted, refl, refl, fullest-count)
 
 -- ---- f. the worked examples P1 to P13, and the misreadings that document 01 excludes: a case of each is in the table, and a law of each follows
 
-pub theorem-f : map (λ e. result (e .image)) examples ≡ map (λ e. e .expected) examples
-theorem-f = examples-hold
+pub worked-examples : map (λ e. result (e .image)) examples ≡ map (λ e. e .expected) examples
+worked-examples = examples-hold
+
+pub theorem-f : map (λ e. result (e .image)) misreadings ≡ map (λ e. e .expected) misreadings
+theorem-f = misreadings-excluded
 
 -- not "a companion that looks like CLOSURE owning words": whatever word stands in a companion's place, all roles stay
 pub theorem-f-companions : (p : Proto) (pc w : ℕ) → T (not (isExecutable (roleAt p pc))) → rolesFrom p 0 [] (set (p .code) pc w) ≡ roles p

@@ -18,7 +18,7 @@ use Rattle.roles.specs.Refusals.{badDepth}
 use Rattle.validator.specs.Diagnostics.{Step, testedStep, protoSteps}
 use Rattle.validator.specs.Walk.{Walk, MAX-DIAGNOSTICS, countN, start, advance, walkRow, walkFrom, walk}
 use Rattle.validator.specs.Image.{Image, imageProtos, imageWalk}
-use Rattle.validator.specs.Claims.{Accepted}
+use Rattle.validator.specs.Statements.{Accepted}
 use Rattle.opcodes.proofs.TestLaws.{or-false}
 use Rattle.opcodes.proofs.AllLaws.{all-drop, all-of, all-map}
 use Rattle.roles.proofs.TableLaws.{below-end, below-next, below-split, length-protosOf}

@@ -12,11 +12,11 @@ use lib.IntN.{pos, negsuc}
 use borrow.Author.Tests.{lt-leb, lt-ltb, le-ltb, eqb-false, ne-eqb}
 use Rattle.opcodes.specs.Lists.{All, all-nil, all-cons, only, upFrom, select, keepIf, any, Some, here, there}
 use Rattle.roles.specs.Table.{Proto}
-use Rattle.validator.specs.Diagnostics.{Diagnostic, isError, truncationAt, stackDiagnostics, diagnosticsAt, Step, testedStep, untestedStep, protoSteps}
+use Rattle.validator.specs.Diagnostics.{Diagnostic, isError, truncationAt, hasLargeStack, stackDiagnostics, diagnosticsAt, Step, testedStep, untestedStep, protoSteps}
 use Rattle.validator.specs.Rules.{WellFormed}
 use Rattle.validator.specs.Walk.{RowDiagnostic, inRow, MAX-DIAGNOSTICS, Walk, start, countN, advance, walkRow, walkFrom, walk, Verdict, ValidForParser, Incomplete, Invalid, limitReached, hasErrors, verdictOf}
 use Rattle.validator.specs.Image.{Image, imageProtos, imageWalk, diagnostics, verdict}
-use Rattle.validator.specs.Claims.{largeStacks, IsError}
+use Rattle.validator.specs.Statements.{largeStacks, IsError}
 use Rattle.opcodes.proofs.AllLaws.{all-append, all-left, all-right, all-head, all-tail, flatten-all, map-all, all-map, flatMap-all, flatMap-none, upTo-all, all-of, all-imp}
 use Rattle.opcodes.proofs.TestLaws.{true≢false, or-false, by-or}
 use Rattle.validator.proofs.RuleLaws.{Warns, clean-well-formed, no-truncation, no-diagnostics}
@@ -54,11 +54,11 @@ proto-clean : (p : Proto) → All CleanStep (protoSteps p) → WellFormed p
 unfolding protoSteps testedStep
 proto-clean p h =
     let pcs = upFrom 0 (length (p .code)) in
-    let parts = all-tail (flatten-all _ h) in
+    let steps = all-tail (flatten-all _ h) in
     clean-well-formed p
     (upTo-all (λ pc. All Warns (truncationAt p pc)) (length (p .code))
-    (flatMap-all Warns (truncationAt p) pcs (all-imp (λ d w. all-head w) (map-all CleanStep (λ d. testedStep (d ∷ [])) (flatMap (truncationAt p) pcs) (all-head parts)))))
-    (upTo-all (λ pc. All Warns (diagnosticsAt p pc)) (length (p .code)) (map-all CleanStep (λ pc. testedStep (diagnosticsAt p pc)) pcs (all-head (all-tail (all-tail parts)))))
+    (flatMap-all Warns (truncationAt p) pcs (all-imp (λ d w. all-head w) (map-all CleanStep (λ d. testedStep (d ∷ [])) (flatMap (truncationAt p) pcs) (all-head steps)))))
+    (upTo-all (λ pc. All Warns (diagnosticsAt p pc)) (length (p .code)) (map-all CleanStep (λ pc. testedStep (diagnosticsAt p pc)) pcs (all-head (all-tail (all-tail steps)))))
 
 walk-clean : (incoming row : ℕ) (v : Walk) (all : List (List Step)) → Clean (walkFrom incoming row v all) → Clean v × All (All CleanStep) all
 unfolding walkFrom walkRow
@@ -113,7 +113,7 @@ quiet incoming row v (s ∷ ss) e h (all-cons q qs) =
 
 large-cons : (p : Proto) (ps : List Proto) → largeStacks (p ∷ ps) ≡ length (stackDiagnostics p) + largeStacks ps
 unfolding largeStacks stackDiagnostics only
-large-cons p ps = go (ltb 250 (p .stack)) (record { pc = negsuc 0; code = 3; value = pos (p .stack) }) (select (λ q. ltb 250 (q .stack)) ps)
+large-cons p ps = go (hasLargeStack p) (record { pc = negsuc 0; code = 3; value = pos (p .stack) }) (select hasLargeStack ps)
   where
     go : (b : Bool) (d : Diagnostic) (qs : List Proto) → length (keepIf b p qs) ≡ length (only b d) + length qs
     go true d qs = omega arith
@@ -121,7 +121,7 @@ large-cons p ps = go (ltb 250 (p .stack)) (record { pc = negsuc 0; code = 3; val
 
 stack-warns : (p : Proto) → All Warns (stackDiagnostics p)
 unfolding stackDiagnostics only
-stack-warns p = go (ltb 250 (p .stack))
+stack-warns p = go (hasLargeStack p)
   where
     go : (b : Bool) → All Warns (only b (record { pc = negsuc 0; code = 3; value = pos (p .stack) }))
     go true = all-cons tt all-nil

@@ -32,9 +32,13 @@ truncationAt p pc =
     only (isTruncated p pc)
     (cond (is (wordAt p pc) (CLOSURE ∷ [])) (diagnostic pc 1 (pos (owned p pc))) (diagnostic pc 2 (pos 0)))
 
--- code 3: "stack above 250; place -1"
+-- "stack above 250"
+unfoldable pub hasLargeStack : Proto → Bool
+hasLargeStack p = ltb 250 (p .stack)
+
+-- code 3, "place -1"
 unfoldable pub stackDiagnostics : Proto → List Diagnostic
-stackDiagnostics p = only (ltb 250 (p .stack)) (record { pc = negsuc 0; code = 3; value = pos (p .stack) })
+stackDiagnostics p = only (hasLargeStack p) (record { pc = negsuc 0; code = 3; value = pos (p .stack) })
 
 -- ---- of an executable word
 

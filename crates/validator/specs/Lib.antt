@@ -5,5 +5,5 @@ pub mod Image
 pub mod Check
 pub mod Rules
 pub mod Executions
-pub mod Claims
+pub mod Statements
 pub mod Examples

@@ -5,7 +5,7 @@ use mathlib.Core.Logic.{_≢_, _↔_, _⊎_}
 use mathlib.Core.List.{List, [], _∷_, flatMap, flatten}
 use mathlib.Core.Option.{none}
 use mathlib.Core.Bool.{Bool, not}
-use lib.Dec.{T, ltb}
+use lib.Dec.{T}
 use lib.ListN.{length}
 use Rattle.opcodes.specs.Lists.{All, Some, select, upFrom}
 use Rattle.opcodes.specs.Words.{B, C}
@@ -13,7 +13,7 @@ use Rattle.roles.specs.Table.{Proto}
 use Rattle.roles.specs.Roles.{wordAt, isTruncated, bindingWords}
 use Rattle.roles.specs.Refusals.{imageRefusal}
 use Rattle.validator.specs.Operands.{isUnknown, constantBx, upvalueB, flagA, registerA, spanEnds, registerIn, constantIn, childBx}
-use Rattle.validator.specs.Diagnostics.{truncationAt, opcodeDiagnostics, jumpDiagnostics, skipDiagnostics, notBelow, bindingDiagnostics}
+use Rattle.validator.specs.Diagnostics.{hasLargeStack, truncationAt, opcodeDiagnostics, jumpDiagnostics, skipDiagnostics, notBelow, bindingDiagnostics}
 use Rattle.validator.specs.Walk.{RowDiagnostic, MAX-DIAGNOSTICS, ValidForParser, Invalid}
 use Rattle.validator.specs.Image.{Image, imageProtos, diagnostics, verdict}
 use Rattle.validator.specs.Check.{Checked}
@@ -26,7 +26,7 @@ Accepted i = imageRefusal (i .table) (i .words) ≡ none
 
 -- how many prototypes have a stack above 250: each adds a warning
 unfoldable pub largeStacks : List Proto → ℕ
-largeStacks ps = length (select (λ p. ltb 250 (p .stack)) ps)
+largeStacks ps = length (select hasLargeStack ps)
 
 -- a diagnostic that is an error: other than code 3
 abbrev pub IsError : RowDiagnostic → Type 0

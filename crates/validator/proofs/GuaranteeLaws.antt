@@ -10,7 +10,7 @@ use Rattle.roles.specs.Calls.{accepted, answer}
 use Rattle.validator.specs.Walk.{Verdict}
 use Rattle.validator.specs.Image.{Image, diagnostics, verdict}
 use Rattle.validator.specs.Check.{Checked, checked, checkRefusal, checkAnswer}
-use Rattle.validator.specs.Claims.{Accepted, Guarantee}
+use Rattle.validator.specs.Statements.{Accepted, Guarantee}
 use Rattle.opcodes.proofs.AllLaws.{all-imp}
 use Rattle.roles.proofs.RefusalLaws.{orElse-none}
 use Rattle.validator.proofs.ExecutionLaws.{runs-safe}

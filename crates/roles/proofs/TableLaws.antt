@@ -1,15 +1,17 @@
 -- Laws of the prototype table: rows as elements, prototypes of rows, the rows below a row, and the search for a child. Assumes nothing.
-use Prim.Native.Nat.{ℕ, suc, _+_, _/_, _≤_, _<_}
+use Prim.Native.Nat.{ℕ, zero, suc, _+_, _/_, _≤_, _<_, suc-le-suc}
+use native.Mathlib.Nat.{zero-add, suc-add}
 use native.Mathlib.Omega.{arith}
 use mathlib.Core.Path.{_≡_, refl, sym, _∙_, ap, subst}
 use mathlib.Core.Bool.{Bool, true, false}
-use mathlib.Core.List.{List, [], _∷_, _++_}
+use mathlib.Core.List.{List, [], _∷_, _++_, map}
+use mathlib.Core.Option.{none, some}
 use lib.Dec.{T, eqb, ltb, ltb→lt, lt→ltb}
-use lib.ListN.{length, getD, drop}
-use lib.Seq.{drop-cons, getD-append-add}
+use lib.ListN.{length, getD, drop, getElem?, length-map}
+use lib.Seq.{drop-cons}
 use borrow.Author.Tests.{lt-ltb, le-ltb, eq-eqb, ne-eqb}
 use Rattle.opcodes.specs.Lists.{All, all-nil, all-cons, takeWhile, goOnIf, keepIf}
-use Rattle.roles.specs.Table.{Row, rowBytes, rowAt, rows, below, children, Proto, protoOf, protosOf}
+use Rattle.roles.specs.Table.{Row, rowBytes, rowAt, rows, below, children, childAt, Proto, protoOf, protosOf}
 use Rattle.opcodes.proofs.ListLaws.{length-tabulate, getD-tabulate}
 use Rattle.opcodes.proofs.AllLaws.{all-select, all-takeWhile, all-map}
 
@@ -100,8 +102,51 @@ children-append d back (all-cons {x} {xs} h hs) = rw (lt-ltb d (x .depth) h) (go
     go true e = ap (λ (l : List Row). x ∷ l) e
     go false e = e
 
--- so a search is resumed: a child that is not among those before is counted from there
-pub children-resume : (d : ℕ) {front : List Row} (back : List Row) (k : ℕ) (r : Row) → All (λ (r : Row). d < r .depth) front
-    → getD (children d (front ++ back)) (length (children d front) + k) r ≡ getD (children d back) k r
-children-resume d {front} back k r h =
-    ap (λ (l : List Row). getD l (length (children d front) + k) r) (children-append d back h) ∙ getD-append-add (children d front) (children d back) k r
+-- ---- child k
+
+-- element k of lists end to end, and of a list of values
+element-past : {A : Type 0} (xs ys : List A) (k : ℕ) → getElem? (xs ++ ys) (length xs + k) ≡ getElem? ys k
+element-past [] ys k = ap (getElem? ys) (zero-add k)
+element-past (x ∷ xs) ys k = ap (getElem? (x ∷ (xs ++ ys))) (suc-add (length xs) k) ∙ element-past xs ys k
+
+element-value : {A : Type 0} (f : A → ℕ) (xs : List A) (k : ℕ) (x : A) → getElem? xs k ≡ some x → getD (map f xs) k 0 ≡ f x
+element-value f [] k x e = let z : _≡_ {A = ℕ} 0 1 = cc in absurd (omega arith)
+element-value f (y ∷ ys) zero x e = cc
+element-value f (y ∷ ys) (suc k) x e = element-value f ys k x e
+
+element-missing : {A : Type 0} (xs : List A) (k : ℕ) → getElem? xs k ≡ none → length xs ≤ k
+element-missing [] k e = omega arith
+element-missing (y ∷ ys) zero e = let z : _≡_ {A = ℕ} 0 1 = cc in absurd (omega arith)
+element-missing (y ∷ ys) (suc k) e = suc-le-suc (element-missing ys k e)
+
+-- the search, from the first of the rows after a row of depth d: it ends; it finds a child; it goes on among its rows
+pub child-end : (d : ℕ) (r : Row) (rs : List Row) (k : ℕ) → r .depth ≤ d → childAt d (r ∷ rs) k ≡ none
+unfolding childAt
+child-end d r rs k h = ap (λ (l : List Row). getElem? l k) (children-end d r rs h)
+
+pub child-found : (d : ℕ) (r : Row) (rs : List Row) → r .depth ≡ suc d → childAt d (r ∷ rs) 0 ≡ some r
+unfolding childAt
+child-found d r rs e = ap (λ (l : List Row). getElem? l 0) (children-found d r rs e)
+
+pub child-next : (d : ℕ) (r : Row) (rs : List Row) (k : ℕ) → r .depth ≡ suc d → childAt d (r ∷ rs) (suc k) ≡ childAt d rs k
+unfolding childAt
+child-next d r rs k e = ap (λ (l : List Row). getElem? l (suc k)) (children-found d r rs e)
+
+pub child-deeper : (d : ℕ) (r : Row) (rs : List Row) (k : ℕ) → suc d < r .depth → childAt d (r ∷ rs) k ≡ childAt d rs k
+unfolding childAt
+child-deeper d r rs k h = ap (λ (l : List Row). getElem? l k) (children-deeper d r rs h)
+
+-- it is resumed past rows that are all deeper: a child that is not among them is counted from there
+pub child-resume : (d : ℕ) {front : List Row} (back : List Row) (k : ℕ) → All (λ (r : Row). d < r .depth) front → childAt d (front ++ back) (length (children d front) + k) ≡ childAt d back k
+unfolding childAt
+child-resume d {front} back k h =
+    ap (λ (l : List Row). getElem? l (length (children d front) + k)) (children-append d back h) ∙ element-past (children d front) (children d back) k
+
+-- what a prototype knows of its child k: its upvalues, or that it is missing
+pub child-upvalues : (r : Row) (later : List Row) (words : List ℕ) (k : ℕ) (c : Row) → childAt (r .depth) later k ≡ some c → getD (protoOf r later words .children) k 0 ≡ c .upvalues
+unfolding childAt protoOf
+child-upvalues r later words k c e = element-value (λ (c : Row). c .upvalues) (children (r .depth) later) k c e
+
+pub child-missing : (r : Row) (later : List Row) (words : List ℕ) (k : ℕ) → childAt (r .depth) later k ≡ none → length (protoOf r later words .children) ≤ k
+unfolding childAt protoOf
+child-missing r later words k e = omega (arith, length-map (children (r .depth) later) (λ (c : Row). c .upvalues), element-missing (children (r .depth) later) k e)

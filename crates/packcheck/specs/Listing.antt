@@ -25,6 +25,7 @@ unfoldable pub separator : ℕ → ℕ
 separator zero = newline
 separator (suc left) = space
 
+-- a number before those that were read after it
 unfoldable pub consNumber : ℕ → Option (List ℕ) → Option (List ℕ)
 consNumber n none = none
 consNumber n (some ns) = some (n ∷ ns)
@@ -51,6 +52,7 @@ pub data Read (A : Type 0) : Type 0 where
   stopped : Refused → Read A
   done : A → Read A
 
+-- one reading after another, up to the first refusal
 unfoldable pub andThen : {A B : Type 0} → Read A → (A → Read B) → Read B
 andThen (stopped r) f = stopped r
 andThen (done a) f = f a
@@ -88,6 +90,7 @@ readWords at left (l ∷ ls) =
 abbrev pub maxRows : ℕ
 maxRows = 64
 
+-- and so many words
 abbrev pub maxWords : ℕ
 maxWords = 2048
 

@@ -19,9 +19,11 @@ codeNames =
     ∷ "L51-BOOL-001" ∷ "L51-REG-001" ∷ "L51-REG-SPAN-001" ∷ "L51-REG-002" ∷ "L51-REG-003" ∷ "L51-CONST-004" ∷ "L51-CONST-005" ∷ "L51-PROTO-002"
     ∷ "L51-CLOSURE-002" ∷ []
 
+-- "the code's name"
 unfoldable pub codeName : ℕ → String
 codeName code = getD codeNames (code - 1) ""
 
+-- "the verdict's name"
 unfoldable pub verdictName : Verdict → String
 verdictName ValidForParser = "ValidForParser"
 verdictName Incomplete = "Incomplete"
@@ -47,6 +49,7 @@ resultText ds c =
     ∷ []
     )
 
+-- what the check call answers, as text
 unfoldable pub answerText : List RowDiagnostic → Answer Checked → List ℕ
 answerText ds (refused r) = refusalText r
 answerText ds (accepted c) = resultText ds c
@@ -55,9 +58,11 @@ answerText ds (accepted c) = resultText ds c
 abbrev pub maxDiagnostics : ℕ
 maxDiagnostics = 2048
 
+-- what was read, as the output
 unfoldable pub outputText : Read Image → List ℕ
 outputText (stopped r) = refusalText r
 outputText (done i) = answerText (diagnostics i) (checkAnswer i (8 * maxWords) (16 * maxDiagnostics))
 
+-- "reads standard input": the whole output for a whole input
 unfoldable pub packcheck : List ℕ → List ℕ
 packcheck input = outputText (readListing input)

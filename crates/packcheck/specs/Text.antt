@@ -13,9 +13,11 @@ use Rattle.opcodes.specs.Lists.{tabulate}
 unfoldable pub text : String → List ℕ
 text s = tabulate (len s) (λ i. code (charAt s i))
 
+-- "Lines end in a newline"
 abbrev pub newline : ℕ
 newline = 10
 
+-- "single spaces"
 abbrev pub space : ℕ
 space = 32
 
@@ -46,6 +48,7 @@ line (x ∷ y ∷ ys) = x ++ (space ∷ line (y ∷ ys))
 
 -- ---- numbers, read
 
+-- 0 to 9
 unfoldable pub isDigit : ℕ → Bool
 isDigit c = leb 48 c && leb c 57
 
@@ -53,9 +56,11 @@ isDigit c = leb 48 c && leb c 57
 unfoldable pub isHexDigit : ℕ → Bool
 isHexDigit c = isDigit c || leb 97 c && leb c 102
 
+-- of a decimal or hexadecimal digit
 unfoldable pub digitValue : ℕ → ℕ
 digitValue c = cond (isDigit c) (c - 48) (c - 87)
 
+-- of digits at a base
 unfoldable pub valueOf : ℕ → List ℕ → ℕ
 valueOf base ds = foldl (λ n d. n * base + digitValue d) 0 ds
 
@@ -74,6 +79,7 @@ digits (suc most) n = let front = digits most (n / 10) in cond (ltb n 10) [] fro
 unfoldable pub decimal : ℕ → List ℕ
 decimal n = digits 20 n
 
+-- with a sign where it is negative
 unfoldable pub integer : ℤ → List ℕ
 integer (pos n) = decimal n
 integer (negsuc n) = text "-" ++ decimal (suc n)

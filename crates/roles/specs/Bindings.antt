@@ -45,6 +45,7 @@ writes p = flatMap (writesAt p) (upFrom 0 (length (p .code)))
 
 -- ---- the records of all rows: those of a row stand after those of the rows before it
 
+-- so many records have these rows
 unfoldable pub bindingTotal : List Row → ℕ
 bindingTotal rs = total (map (λ (r : Row). r .upvalues) rs)
 
@@ -64,6 +65,7 @@ bindRows all (r ∷ rs) words bs =
     bindRows all rs (drop (r .words) words)
     (foldl (λ (bs : List Binding) (v : Write). setBinding all (childAt (r .depth) rs (v .child)) v bs) bs (writes (protoOf r rs words)))
 
+-- all records: from the start, row by row
 unfoldable pub bindings : List Row → List ℕ → List Binding
 bindings rs words = bindRows rs rs words (replicate (bindingTotal rs) unbound)
 

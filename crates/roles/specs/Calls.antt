@@ -15,6 +15,7 @@ pub data Answer (A : Type 0) : Type 0 where
   refused : Refused → Answer A
   accepted : A → Answer A
 
+-- the refusal that applies, or the result
 unfoldable pub answer : {A : Type 0} → Option Refused → A → Answer A
 answer (some r) a = refused r
 answer none a = accepted a

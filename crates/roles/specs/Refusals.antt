@@ -13,9 +13,11 @@ pub record Refused : Type 0 where
   pub number : ℕ
   pub figure : ℕ
 
+-- that refusal
 unfoldable pub refuse : ℕ → ℕ → Option Refused
 refuse number figure = some (record { number = number; figure = figure })
 
+-- that refusal where a test passes
 unfoldable pub refuseIf : Bool → ℕ → ℕ → Option Refused
 refuseIf b number figure = cond b (refuse number figure) none
 
@@ -37,6 +39,7 @@ badDepth least most (r ∷ rs) = orElse (refuseIf (not (depthFits least most r))
 unfoldable pub fieldsFit : Row → Bool
 fieldsFit r = leb (r .constants) 2147483647 && leb (r .upvalues) 255 && leb (r .stack) 255
 
+-- of these rows
 unfoldable pub badField : List Row → Option Refused
 badField [] = none
 badField (r ∷ rs) = orElse (refuseIf (not (fieldsFit r)) 5 (r .row)) (badField rs)

@@ -56,6 +56,7 @@ wordAt p pc = getD (p .code) pc 0
 unfoldable pub executableAt : Proto → ℕ → Bool
 executableAt p pc = ltb pc (length (p .code)) && isExecutable (roleAt p pc)
 
+-- as a claim
 abbrev pub Executable : Proto → ℕ → Type 0
 Executable p pc = T (executableAt p pc)
 

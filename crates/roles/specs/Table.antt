@@ -21,9 +21,11 @@ pub record Row : Type 0 where
 abbrev pub rowFields : ℕ
 rowFields = 5
 
+-- its length
 abbrev pub rowBytes : ℕ
 rowBytes = 20
 
+-- row i of a table as bytes
 unfoldable pub rowAt : List ℕ → ℕ → Row
 rowAt table i =
     record {

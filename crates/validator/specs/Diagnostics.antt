@@ -17,6 +17,7 @@ pub record Diagnostic : Type 0 where
   pub code : ℕ
   pub value : ℤ
 
+-- at a word
 abbrev pub diagnostic : ℕ → ℕ → ℤ → Diagnostic
 diagnostic pc code value = record { pc = pos pc; code = code; value = value }
 
@@ -122,9 +123,11 @@ pub record Step : Type 0 where
   pub tested : Bool
   pub adds : List Diagnostic
 
+-- tested
 unfoldable pub testedStep : List Diagnostic → Step
 testedStep ds = record { tested = true; adds = ds }
 
+-- not tested
 unfoldable pub untestedStep : List Diagnostic → Step
 untestedStep ds = record { tested = false; adds = ds }
 

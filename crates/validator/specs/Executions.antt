@@ -49,6 +49,7 @@ pub record Trace : Type 0 where
   pub met : List ℕ
   pub exit : Exit
 
+-- one more met, before the others
 unfoldable pub meet : ℕ → Trace → Trace
 meet pc t = record { met = pc ∷ t .met; exit = t .exit }
 

@@ -12,6 +12,7 @@ pub record Image : Type 0 where
   pub warnings : ℕ
   pub errors : ℕ
 
+-- its prototypes (the document's parts), in row order
 unfoldable pub imageProtos : Image → List Proto
 imageProtos i = protos (i .table) (i .words)
 
@@ -19,8 +20,10 @@ imageProtos i = protos (i .table) (i .words)
 unfoldable pub imageWalk : Image → Walk
 imageWalk i = walk (i .warnings + i .errors) (map protoSteps (imageProtos i))
 
+-- the diagnostics (findings) in order, as many as the limit leaves
 unfoldable pub diagnostics : Image → List RowDiagnostic
 diagnostics i = imageWalk i .found
 
+-- the verdict, from the errors and the limit
 unfoldable pub verdict : Image → Verdict
 verdict i = verdictOf (hasErrors (i .errors) (imageWalk i)) (limitReached (i .warnings + i .errors) (imageWalk i))

@@ -30,6 +30,7 @@ isLoadboolSkip w = is w (LOADBOOL ∷ []) && ltb 0 (operand C w)
 unfoldable pub isSkip : ℕ → Bool
 isSkip w = is w (EQ ∷ LT ∷ LE ∷ TEST ∷ TESTSET ∷ TFORLOOP ∷ []) || isLoadboolSkip w
 
+-- the pc that it skips to
 unfoldable pub skipTarget : ℕ → ℕ
 skipTarget pc = pc + 2
 
@@ -83,11 +84,14 @@ childBx w = only (is w (CLOSURE ∷ [])) (fieldBx w)
 
 -- ---- what a companion of a CLOSURE captures: "a register under MOVE, an upvalue under GETUPVAL"
 
+-- it captures something at all
 unfoldable pub isBinding : ℕ → Bool
 isBinding w = is w (MOVE ∷ GETUPVAL ∷ [])
 
+-- the register under MOVE
 unfoldable pub capturedRegister : ℕ → List ℕ
 capturedRegister w = only (is w (MOVE ∷ [])) (operand B w)
 
+-- the upvalue under GETUPVAL
 unfoldable pub capturedUpvalue : ℕ → List ℕ
 capturedUpvalue w = only (is w (GETUPVAL ∷ [])) (operand B w)

@@ -16,10 +16,11 @@ use Rattle.validator.specs.Operands.{isUnknown, isBinding, isJump, targe
 abbrev pub Below : ℕ → List ℕ → Type 0
 Below limit = All (λ v. v < limit)
 
--- all registers, and all constants, that a word names
+-- all registers that a word names
 unfoldable pub registersOf : ℕ → List ℕ
 registersOf w = flatten (registerA w ∷ spanEnds w ∷ registerIn B w ∷ registerIn C w ∷ [])
 
+-- all constants that it names
 unfoldable pub constantsOf : ℕ → List ℕ
 constantsOf w = flatten (constantBx w ∷ constantIn B w ∷ constantIn C w ∷ [])
 
@@ -36,11 +37,12 @@ pub record OperandsInRange (p : Proto) (pc : ℕ) : Type 0 where
   pub child : Below (length (p .children)) (childBx (wordAt p pc))
   pub captures : (j : ℕ) → j < bindingWords p pc → CapturesInRange p (wordAt p (pc + 1 + j))
 
--- a jump's target is an executable word, and a skip's no companion
+-- a jump's target is an executable word
 abbrev pub Lands : Proto → ℤ → Type 0
 Lands p (pos n) = Executable p n
 Lands p (negsuc n) = ⊥
 
+-- "jump 5, 6": both
 pub record JumpKept (p : Proto) (pc : ℕ) : Type 0 where
   pub target : T (isJump (wordAt p pc)) → Lands p (target pc (wordAt p pc))
   pub skip : T (isSkip (wordAt p pc)) → T (isExecutable (roleAt p (skipTarget pc)))

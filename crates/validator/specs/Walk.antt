@@ -14,6 +14,7 @@ pub record RowDiagnostic : Type 0 where
   pub row : ℕ
   pub diagnostic : Diagnostic
 
+-- a diagnostic of that row
 abbrev pub inRow : ℕ → Diagnostic → RowDiagnostic
 inRow row d = record { row = row; diagnostic = d }
 
@@ -26,6 +27,7 @@ pub record Walk : Type 0 where
   pub found : List RowDiagnostic
   pub ended : Bool
 
+-- nothing found
 abbrev pub start : Walk
 start = record { found = []; ended = false }
 
@@ -49,6 +51,7 @@ unfoldable pub walkFrom : ℕ → ℕ → Walk → List (List Step) → Walk
 walkFrom incoming row v [] = v
 walkFrom incoming row v (steps ∷ rest) = walkFrom incoming (suc row) (walkRow incoming row v steps) rest
 
+-- from row 0 on
 unfoldable pub walk : ℕ → List (List Step) → Walk
 walk incoming all = walkFrom incoming 0 start all
 
@@ -60,6 +63,7 @@ limitReached incoming v = v .ended || ltb MAX-DIAGNOSTICS (countN incoming v)
 unfoldable pub hasErrors : ℕ → Walk → Bool
 hasErrors errors v = ltb 0 errors || any (λ (d : RowDiagnostic). isError (d .diagnostic)) (v .found)
 
+-- the three verdicts
 pub data Verdict : Type 0 where
   ValidForParser Incomplete Invalid : Verdict
 

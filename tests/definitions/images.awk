@@ -1,5 +1,5 @@
 # Images of tests/answers/small.txt as cases for the proof checker: each with its answers, and with its buffers after the calls as bytes, lent full of 170.
-# Variables: part (from 0), size (images a part).
+# Variables: chunk (from 0), size (images a chunk).
 
 function list(from, to,   k, s) {
     for (k = from; k <= to; k++) s = s $k " ∷ "
@@ -36,7 +36,7 @@ function answer(number, figure) {
     return number == 0 ? "(accepted " figure ")" : "(refused (record { number = " number "; figure = " figure " }))"
 }
 
-/^image / { here = int(seen / size) == part; seen++; name = $2; tail = "[]"; wtail = "[]"; records = "none" }
+/^image / { here = int(seen / size) == chunk; seen++; name = $2; tail = "[]"; wtail = "[]"; records = "none" }
 !here { next }
 /^incoming / { warnings = $2; errors = $3 }
 /^table / { table = list(3, NF) }

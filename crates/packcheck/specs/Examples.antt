@@ -4,6 +4,7 @@ use Prim.Native.String.{String}
 use mathlib.Core.List.{List, [], _∷_, flatMap}
 use Rattle.packcheck.specs.Text.{text}
 
+-- an input and the whole output
 pub record Example : Type 0 where
   pub input : List ℕ
   pub output : List ℕ
@@ -21,12 +22,15 @@ abbrev judged : String → String → String → String → String → Example
 judged incoming rows words found verdict =
     record { input = listing incoming rows words; output = texts ("row place code value\n" ∷ found ∷ "verdict findings\n" ∷ verdict ∷ []) }
 
+-- and where it is refused
 abbrev refusedListing : String → String → String → String → Example
 refusedListing incoming rows words output = record { input = listing incoming rows words; output = text output }
 
+-- an input that lacks some of these lines
 abbrev refusedText : String → String → Example
 refusedText input output = record { input = text input; output = text output }
 
+-- the table
 unfoldable pub examples : List Example
 examples =
     -- the document's example

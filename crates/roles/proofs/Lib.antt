@@ -3,3 +3,4 @@ pub mod RefusalLaws
 pub mod RoleBufferLaws
 pub mod RoleLaws
 pub mod TableLaws
+pub mod UntouchedLaws

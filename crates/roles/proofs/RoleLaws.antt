@@ -12,7 +12,7 @@ use lib.Dec.{T, ltb, ltb→lt, lt→ltb}
 use Rattle.opcodes.specs.Lists.{All, all-nil, all-cons, upFrom, only}
 use Rattle.opcodes.specs.Words.{is, CLOSURE, SETLIST}
 use Rattle.roles.specs.Table.{Proto}
-use Rattle.roles.specs.Roles.{Role, Instruction, ClosureBinding, SetlistExtra, isExecutable, executableAt, Executable, bindingCount, hasExtra, claims, rolesFrom, roles, roleAt, wordAt, owned, existing}
+use Rattle.roles.specs.Roles.{Role, Instruction, ClosureBinding, SetlistExtra, isExecutable, executableAt, Executable, bindingCount, hasExtra, claims, rolesFrom, roles, roleAt, wordAt, owned, existing, companions}
 use Rattle.opcodes.proofs.AllLaws.{all-append}
 use Rattle.opcodes.proofs.TestLaws.{T-and, T-true, and-T, by-cond, disjoint, is-not}
 
@@ -119,8 +119,8 @@ owns-none p pc ops c s t =
     (λ _. simp (is-not (wordAt p pc) ops (CLOSURE ∷ []) c t, is-not (wordAt p pc) ops (SETLIST ∷ []) s t)) (λ _. refl)
 
 -- the words after an executable one that it owns, as far as they exist, have the roles that it claims: whether it is truncated or not
-pub owned-role : (p : Proto) (pc j : ℕ) → Executable p pc → j < existing p pc (owned p pc) → roleAt p (pc + 1 + j) ≡ getD (claims p pc (wordAt p pc)) j Instruction
-unfolding roleAt existing
+pub owned-role : (p : Proto) (pc j : ℕ) → Executable p pc → j < companions p pc → roleAt p (pc + 1 + j) ≡ getD (claims p pc (wordAt p pc)) j Instruction
+unfolding roleAt companions existing
 owned-role p pc j x h =
     sym (getD-drop (pc + 1) (roles p) j Instruction)
     ∙ ap (λ (l : List Role). getD l j Instruction) (roles-after p pc x)

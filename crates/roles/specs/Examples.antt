@@ -20,15 +20,19 @@ pub record Example : Type 0 where
   pub roles : List ℤ
   pub bindings : List ℤ
 
+-- what the definitions say of it
 unfoldable pub rolesOf : Example → List ℤ
 rolesOf e = roleRecords (protos (u32Record (e .rows)) (u32Record (e .words)))
 
+-- and of its bindings
 unfoldable pub bindingsOf : Example → List ℤ
 bindingsOf e = flatMap bindingFields (imageBindings (u32Record (e .rows)) (u32Record (e .words)))
 
+-- an example, by its four lists
 abbrev example : List ℕ → List ℕ → List ℤ → List ℤ → Example
 example rows words roles bindings = record { rows = rows; words = words; roles = roles; bindings = bindings }
 
+-- the records of an executable word, a CLOSURE's companion and a SETLIST's extra
 abbrev instruction : List ℤ
 instruction = negsuc 0 ∷ negsuc 0 ∷ []
 
@@ -38,6 +42,7 @@ companion owner index = pos owner ∷ pos index ∷ []
 abbrev extra : ℕ → List ℤ
 extra owner = pos owner ∷ negsuc 0 ∷ []
 
+-- a record of a bound upvalue, and of one that is not
 abbrev bound : ℕ → ℕ → ℕ → List ℤ
 bound instack index pc = pos instack ∷ pos index ∷ pos pc ∷ []
 
@@ -52,6 +57,7 @@ row depth words constants upvalues stack = depth ∷ words ∷ constants ∷ upv
 abbrev parent : ℕ → List ℕ → ℕ → List ℤ → List ℤ → Example
 parent n words upvalues roles bindings = example (row 0 n 0 0 2 ++ row 1 1 0 upvalues 2) (words ++ 0x0080001e ∷ []) (roles ++ instruction) bindings
 
+-- the table
 unfoldable pub examples : List Example
 examples =
     -- P10: the index is B modulo 256. P11: nothing binds
@@ -74,6 +80,7 @@ examples =
 
 -- ---- refusals, of the bindings call, which has all eight
 
+-- a table and words as bytes, the lengths of the two buffers, and the refusal
 pub record RefusalExample : Type 0 where
   pub table : List ℕ
   pub words : List ℕ
@@ -81,13 +88,16 @@ pub record RefusalExample : Type 0 where
   pub bindingLength : ℕ
   pub expected : Option Refused
 
+-- what the definitions say of it
 unfoldable pub refusalOf : RefusalExample → Option Refused
 refusalOf e = bindingsRefusal (e .table) (e .words) (e .roleLength) (e .bindingLength)
 
+-- an example, with the bytes of whole rows and words
 abbrev judged : List ℕ → List ℕ → ℕ → ℕ → Option Refused → RefusalExample
 judged rows words roleLength bindingLength expected =
     record { table = u32Record rows; words = u32Record words; roleLength = roleLength; bindingLength = bindingLength; expected = expected }
 
+-- the table of refusals
 unfoldable pub refusals : List RefusalExample
 refusals =
     -- an exact fit, and one byte less in either buffer: 7 before 8, and 8 tells the records needed

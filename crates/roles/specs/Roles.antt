@@ -68,13 +68,13 @@ owned p pc = cond (executableAt p pc) (length (claims p pc (wordAt p pc))) 0
 unfoldable pub existing : Proto → ℕ → ℕ → ℕ
 existing p pc n = min n (length (p .code) - (pc + 1))
 
--- "Truncated: fewer words exist than are owned"
-unfoldable pub isTruncated : Proto → ℕ → Bool
-isTruncated p pc = ltb (existing p pc (owned p pc)) (owned p pc)
-
 -- how many companions the word at pc has
 unfoldable pub companions : Proto → ℕ → ℕ
 companions p pc = existing p pc (owned p pc)
+
+-- "Truncated: fewer words exist than are owned"
+unfoldable pub isTruncated : Proto → ℕ → Bool
+isTruncated p pc = ltb (companions p pc) (owned p pc)
 
 -- in how many of these a CLOSURE at pc binds an upvalue of its child
 unfoldable pub bindingWords : Proto → ℕ → ℕ

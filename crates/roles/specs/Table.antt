@@ -21,7 +21,7 @@ pub record Row : Type 0 where
 abbrev pub rowFields : ℕ
 rowFields = 5
 
--- its length
+-- the length of a row in bytes
 abbrev pub rowBytes : ℕ
 rowBytes = 20
 

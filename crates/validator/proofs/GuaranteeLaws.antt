@@ -1,17 +1,19 @@
--- What an accepted check call says of its image. Assumes nothing.
+-- What an accepted check call says of its image, and what a refused one leaves. Assumes nothing.
 use Prim.Native.Nat.{ℕ, _≤_}
 use native.Mathlib.Omega.{arith}
 use mathlib.Core.Path.{_≡_, refl, sym, _∙_, ap, subst⁻¹}
-use mathlib.Core.Logic.{_↔_}
+use mathlib.Core.Logic.{_↔_, _⊎_}
+use mathlib.Core.List.{List}
 use mathlib.Core.Option.{Option, none, some}
 use lib.ListN.{length}
 use Rattle.roles.specs.Refusals.{Refused, rolesRefusal}
-use Rattle.roles.specs.Calls.{accepted, answer}
+use Rattle.roles.specs.Calls.{accepted, refused, answer, rolesAfter}
 use Rattle.validator.specs.Walk.{Verdict}
 use Rattle.validator.specs.Image.{Image, diagnostics, verdict}
-use Rattle.validator.specs.Check.{Checked, checked, checkRefusal, checkAnswer}
+use Rattle.validator.specs.Check.{Checked, checked, checkRefusal, checkAnswer, diagnosticsAfter}
 use Rattle.validator.specs.Statements.{Accepted, Guarantee}
 use Rattle.opcodes.proofs.AllLaws.{all-imp}
+use Rattle.roles.proofs.UntouchedLaws.{refused-leaves, refused-before}
 use Rattle.roles.proofs.RefusalLaws.{orElse-none}
 use Rattle.validator.proofs.ExecutionLaws.{runs-safe}
 use Rattle.validator.proofs.WalkLaws.{valid-well-formed, well-formed-valid, invalid-iff}
@@ -46,3 +48,12 @@ check-guaranteed i roleLength diagnosticLength c e =
       invalid = verdict-iff v (invalid-iff i);
       most = subst⁻¹ (λ (m : ℕ). m ≤ 10255) n (at-most i a);
     }
+
+-- a refused check call leaves its buffers, but 8 comes with the roles written
+pub check-untouched : (i : Image) (roles buffer : List ℕ) (r : Refused) → checkAnswer i (length roles) (length buffer) ≡ refused r
+    → (diagnosticsAfter i (length roles) buffer ≡ buffer) × ((r .number ≡ 8) ⊎ (rolesAfter (i .table) (i .words) roles ≡ roles))
+unfolding checkAnswer checkRefusal diagnosticsAfter rolesAfter
+check-untouched i roles buffer r e = (
+  refused-leaves (checkRefusal i (length roles) (length buffer)) _ r buffer _ e,
+  refused-before (rolesRefusal (i .table) (i .words) (length roles)) _ 16 (length buffer) _ r roles _ e,
+)

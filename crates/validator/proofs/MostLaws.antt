@@ -13,7 +13,7 @@ use lib.Seq.{take-all, getD-at, getD-append-add}
 use Rattle.opcodes.specs.Lists.{All, all-nil, all-cons, only, upFrom, tabulate}
 use Rattle.opcodes.specs.Words.{is, B, C}
 use Rattle.roles.specs.Table.{Proto}
-use Rattle.roles.specs.Roles.{Role, Instruction, ClosureBinding, bindingCount, hasExtra, claims, rolesFrom, roles, roleAt, wordAt, executableAt, Executable, owned, existing, isTruncated, bindingWords}
+use Rattle.roles.specs.Roles.{Role, Instruction, ClosureBinding, bindingCount, hasExtra, claims, rolesFrom, roles, roleAt, wordAt, executableAt, Executable, owned, existing, companions, isTruncated, bindingWords}
 use Rattle.validator.specs.Operands.{isUnknown, isBinding, isJump, isSkip, isLoadboolSkip, constantBx, upvalueB, flagA, registerA, spanEnds, registerIn, constantIn, childBx, capturedRegister, capturedUpvalue}
 use Rattle.validator.specs.Diagnostics.{Diagnostic, truncationAt, opcodeDiagnostics, jumpDiagnostics, skipDiagnostics, notBelow, operandDiagnostics, bindingDiagnostics, knownDiagnostics, wordDiagnostics, diagnosticsAt}
 use Rattle.validator.specs.Diagnostics.{Step, testedStep, untestedStep, hasLargeStack, stackDiagnostics, protoSteps}
@@ -123,7 +123,7 @@ many-there n m = rw (T-true (executableAt (fullProto n m) n) (executable-there n
 
 -- none is truncated: a word of opcode 63 owns nothing, and the CLOSURE has all m
 not-truncated : (n m pc o : ℕ) → owned (fullProto n m) pc ≡ o → pc + o < n + suc m → truncationAt (fullProto n m) pc ≡ []
-unfolding truncationAt isTruncated existing only fullProto
+unfolding truncationAt isTruncated companions existing only fullProto
 not-truncated n m pc o e h =
     let p = fullProto n m in
     rw (le-ltb (min (owned p pc) (length (p .code) - (pc + 1))) (owned p pc) (omega (arith, length-code n m)))

@@ -13,7 +13,7 @@ use lib.IntN.{ℤ, pos, negsuc}
 use Rattle.opcodes.specs.Lists.{All, all-nil, all-cons, only, upFrom, select, keepIf}
 use Rattle.opcodes.specs.Words.{opcode, is, B, C, CLOSURE}
 use Rattle.roles.specs.Table.{Proto}
-use Rattle.roles.specs.Roles.{isExecutable, executableAt, Executable, roleAt, wordAt, owned, existing, isTruncated, bindingWords}
+use Rattle.roles.specs.Roles.{isExecutable, executableAt, Executable, roleAt, wordAt, owned, existing, companions, isTruncated, bindingWords}
 use Rattle.validator.specs.Operands.{isUnknown, isBinding, isJump, target, isSkip, skipTarget, constantBx, upvalueB, flagA, registerA, spanEnds, registerIn, constantIn, childBx, capturedRegister, capturedUpvalue}
 use Rattle.validator.specs.Diagnostics.{Diagnostic, diagnostic, isError, notBelow, truncationAt, opcodeDiagnostics, targetDiagnostics, jumpDiagnostics, skipDiagnostics, bindingDiagnostics, operandDiagnostics, knownDiagnostics, wordDiagnostics, diagnosticsAt}
 use Rattle.validator.specs.Statements.{RulesByCodes}
@@ -26,11 +26,11 @@ abbrev pub Warns : Diagnostic → Type 0
 Warns d = T (not (isError d))
 
 -- these diagnostics tell whether X holds: there are none where it does, and an error where it does not
-pub record Tells (ds : List Diagnostic) (X : Type 0) : Type 0 where
-  pub clean : All Warns ds → X
-  pub none : X → ds ≡ []
+record Tells (ds : List Diagnostic) (X : Type 0) : Type 0 where
+  clean : All Warns ds → X
+  none : X → ds ≡ []
 
-pub tells-as : {ds : List Diagnostic} {X Y : Type 0} → (X → Y) → (Y → X) → Tells ds X → Tells ds Y
+tells-as : {ds : List Diagnostic} {X Y : Type 0} → (X → Y) → (Y → X) → Tells ds X → Tells ds Y
 tells-as f g t = record { clean = λ c. f (t .clean c); none = λ y. t .none (g y) }
 
 tells-error : (d : Diagnostic) (ds : List Diagnostic) {X : Type 0} → T (isError d) → (X → ⊥) → Tells (d ∷ ds) X
@@ -211,7 +211,7 @@ clean-well-formed p t d =
 
 -- a companion owns none and is not truncated
 not-truncated : (p : Proto) → WellFormed p → (pc : ℕ) → T (not (isTruncated p pc))
-unfolding isTruncated owned
+unfolding isTruncated companions owned
 not-truncated p k pc = go (executableAt p pc) refl
   where
     go : (b : Bool) → executableAt p pc ≡ b → T (not (isTruncated p pc))

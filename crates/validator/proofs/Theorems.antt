@@ -1,5 +1,5 @@
 -- What is proved of document 01's definitions. Open this file first: each theorem stands under the sentence that it states, and its proof cites a law of
--- the modules beside it. The definitions are in specs/. Assumes nothing.
+-- the modules beside it; the witnesses at the end are computed here. The definitions are in specs/, but for one image, `fullest` in MostLaws. Assumes nothing.
 use Prim.Native.Nat.{ℕ, zero, suc, _+_, _≤_, _<_}
 use native.Mathlib.Nat.{not-suc-le-zero, le-of-suc-le-suc}
 use native.Mathlib.Omega.{arith}
@@ -8,31 +8,32 @@ use mathlib.Core.Logic.{_↔_, _⊎_}
 use mathlib.Core.Bool.{Bool, true, false, not}
 use mathlib.Core.List.{List, [], _∷_, _++_, map, flatMap, flatten}
 use lib.Dec.{T}
-use lib.ListN.{length, getD, drop, set}
+use lib.ListN.{length, getD, set}
 use Rattle.opcodes.specs.Lists.{All, Some, only}
-use Rattle.opcodes.specs.Bytes.{u32s}
 use Rattle.opcodes.specs.Words.{is, B, C}
-use Rattle.roles.specs.Table.{Row, rows, Proto, protoOf, protosOf}
-use Rattle.roles.specs.Roles.{Instruction, isExecutable, Executable, bindingCount, hasExtra, claims, rolesFrom, roles, roleAt, wordAt, executableAt, owned, existing, isTruncated, bindingWords}
-use Rattle.roles.specs.Calls.{accepted}
+use Rattle.roles.specs.Table.{Row, rows, Proto}
+use Rattle.roles.specs.Roles.{Instruction, isExecutable, Executable, bindingCount, hasExtra, claims, rolesFrom, roles, roleAt, wordAt, executableAt, owned, existing, companions, isTruncated, bindingWords}
+use Rattle.roles.specs.Refusals.{Refused}
+use Rattle.roles.specs.Calls.{accepted, refused, rolesAnswer, rolesAfter, bindingsAnswer, bindingsAfter}
 use Rattle.validator.specs.Operands.{isUnknown, isBinding, target, isJump, isSkip, isLoadboolSkip, constantBx, upvalueB, flagA, registerA, spanEnds, registerIn, constantIn, childBx}
 use Rattle.validator.specs.Diagnostics.{Step, testedStep, protoSteps, truncationAt, opcodeDiagnostics, jumpDiagnostics, skipDiagnostics, notBelow, operandDiagnostics, knownDiagnostics, wordDiagnostics, diagnosticsAt}
-use Rattle.validator.specs.Walk.{Walk, inRow, countN, start, advance, walkRow, MAX-DIAGNOSTICS, ValidForParser, Invalid}
+use Rattle.validator.specs.Walk.{Walk, inRow, countN, advance, MAX-DIAGNOSTICS, ValidForParser, Invalid}
 use Rattle.validator.specs.Image.{Image, imageProtos, imageWalk, diagnostics, verdict}
-use Rattle.validator.specs.Check.{Checked, checkAnswer}
+use Rattle.validator.specs.Check.{Checked, checkAnswer, diagnosticsAfter}
 use Rattle.validator.specs.Rules.{Below, registersOf, constantsOf, JumpKept, BindingKept, WellFormed}
 use Rattle.validator.specs.Executions.{arrive, next, meet, runFrom, run, SafeRun}
-use Rattle.validator.specs.Statements.{Accepted, largeStacks, IsError, RulesByCodes, Passed, Guarantee}
+use Rattle.validator.specs.Statements.{Accepted, largeStacks, IsError, RulesByCodes, walkByChildren, Passed, Guarantee}
 use Rattle.validator.specs.Examples.{result, examples, misreadings, runExamples}
 use Rattle.opcodes.proofs.AllLaws.{all-head, all-tail, all-imp}
+use Rattle.roles.proofs.UntouchedLaws.{roles-untouched, bindings-untouched}
 use Rattle.roles.proofs.RoleLaws.{executable, first-executable, owned-role, companion-unread}
 use Rattle.validator.proofs.RuleLaws.{well-formed-iff-none, rules-by-codes}
 use Rattle.validator.proofs.ExecutionLaws.{runs-safe}
 use Rattle.validator.proofs.WalkLaws.{valid-well-formed, well-formed-valid, invalid-iff, advance-going, word-is-one-step}
 use Rattle.validator.proofs.LimitLaws.{at-most}
 use Rattle.validator.proofs.MostLaws.{fullest, fullest-accepted, fullest-count}
-use Rattle.validator.proofs.TreeLaws.{walkChildren, image-by-children}
-use Rattle.validator.proofs.GuaranteeLaws.{check-guaranteed}
+use Rattle.validator.proofs.TreeLaws.{image-by-children}
+use Rattle.validator.proofs.GuaranteeLaws.{check-guaranteed, check-untouched}
 use Rattle.validator.proofs.ExampleLaws.{examples-hold, misreadings-excluded, runs-hold}
 
 -- ---- the rules are the conditions of the diagnostics
@@ -72,7 +73,7 @@ theorem-c i none few = (valid-well-formed i, well-formed-valid i none few)
 pub theorem-d : (i : Image) → (verdict i ≡ Invalid) ↔ ((0 < i .errors) ⊎ Some IsError (diagnostics i))
 theorem-d i = invalid-iff i
 
--- ---- e. at most 10,255 diagnostics; and an image has that many, with nothing that came in
+-- ---- e. an image that no refusal from 1 to 6 meets has at most 10,255 diagnostics; and one of them has that many, with nothing that came in
 
 pub theorem-e : (i : Image) → Accepted i → length (diagnostics i) ≤ 10255
 theorem-e i a = at-most i a
@@ -81,7 +82,7 @@ pub theorem-e-reached : Accepted fullest × (fullest .warnings ≡ 0) × (fulles
 unfolding fullest
 theorem-e-reached = (fullest-accepted, refl, refl, fullest-count)
 
--- ---- f. the worked examples P1 to P13, and the misreadings that document 01 excludes: a case of each is in the table, and a law of each follows
+-- ---- f. the worked examples P1 to P13, and the misreadings that document 01 excludes: each has its cases in a table, and the first three a law too
 
 pub worked-examples : map (λ e. result (e .image)) examples ≡ map (λ e. e .expected) examples
 worked-examples = examples-hold
@@ -95,7 +96,7 @@ unfolding roles roleAt
 theorem-f-companions p pc w t = companion-unread p 0 [] (p .code) pc w t
 
 -- not "a truncated CLOSURE leaving its existing companions unmarked": each owned word that exists has its role, truncated or not
-pub theorem-f-truncated : (p : Proto) (pc j : ℕ) → Executable p pc → j < existing p pc (owned p pc) → roleAt p (pc + 1 + j) ≡ getD (claims p pc (wordAt p pc)) j Instruction
+pub theorem-f-truncated : (p : Proto) (pc j : ℕ) → Executable p pc → j < companions p pc → roleAt p (pc + 1 + j) ≡ getD (claims p pc (wordAt p pc)) j Instruction
 theorem-f-truncated p pc j x h = owned-role p pc j x h
 
 -- not "10,000 as a cut inside a word's findings": a step that begins below the limit adds all of its diagnostics
@@ -109,10 +110,10 @@ theorem-f-one-step p pc h = word-is-one-step p pc h
 
 -- (not "binding index clamped rather than reduced": the table, P10 and 511)
 
--- ---- the walk: "then the children", with a test "before a child". Row by row, it is row 0's own steps, then its children, each with its own first
+-- ---- the walk row by row, over an image that no refusal from 1 to 6 meets, is the one that document 01 tells: a prototype's own steps, "then the
+-- children", each after a test "before a child"
 
-pub walk-goes-by-children : (i : Image) (r : Row) (rs : List Row) → Accepted i → rows (i .table) ≡ r ∷ rs
-    → imageWalk i ≡ walkChildren (i .warnings + i .errors) (length rs) (r .depth) rs (map protoSteps (protosOf rs (drop (r .words) (u32s (i .words))))) 1 (walkRow (i .warnings + i .errors) 0 start (protoSteps (protoOf r rs (u32s (i .words)))))
+pub walk-goes-by-children : (i : Image) (r : Row) (rs : List Row) → Accepted i → rows (i .table) ≡ r ∷ rs → imageWalk i ≡ walkByChildren i r rs
 walk-goes-by-children i r rs a e = image-by-children i r rs a e
 
 -- ---- demand 3 of the check call: whatever image and buffers it is called with, if it is not refused, its result says this of the image
@@ -120,18 +121,31 @@ walk-goes-by-children i r rs a e = image-by-children i r rs a e
 pub demand-3 : (i : Image) (roleLength diagnosticLength : ℕ) (c : Checked) → checkAnswer i roleLength diagnosticLength ≡ accepted c → Guarantee i c
 demand-3 i roleLength diagnosticLength c e = check-guaranteed i roleLength diagnosticLength c e
 
+-- ---- "Trays stay untouched, but 8 comes with roles written": of each call, for any table, words and buffers
+
+pub roles-call-refused : (table words roles : List ℕ) (r : Refused) → rolesAnswer table words (length roles) ≡ refused r → rolesAfter table words roles ≡ roles
+roles-call-refused table words roles r e = roles-untouched table words roles r e
+
+pub bindings-call-refused : (table words roles bindings : List ℕ) (r : Refused) → bindingsAnswer table words (length roles) (length bindings) ≡ refused r
+    → (bindingsAfter table words (length roles) bindings ≡ bindings) × ((r .number ≡ 8) ⊎ (rolesAfter table words roles ≡ roles))
+bindings-call-refused table words roles bindings r e = bindings-untouched table words roles bindings r e
+
+pub check-call-refused : (i : Image) (roles buffer : List ℕ) (r : Refused) → checkAnswer i (length roles) (length buffer) ≡ refused r
+    → (diagnosticsAfter i (length roles) buffer ≡ buffer) × ((r .number ≡ 8) ⊎ (rolesAfter (i .table) (i .words) roles ≡ roles))
+check-call-refused i roles buffer r e = check-untouched i roles buffer r e
+
 -- ---- the claims are not empty: for each rule a prototype whose first word is executable and breaks it. (For each verdict the table has an image)
 
 abbrev oneWord : ℕ → ℕ → Proto
 oneWord w stack = record { code = w ∷ []; constants = 0; upvalues = 0; stack = stack; children = [] }
 
--- the first word of any prototype that has one
+-- the first word of any prototype that has one is executable
 first : (w : ℕ) (ws : List ℕ) (p : Proto) → p .code ≡ w ∷ ws → Executable p 0
 first w ws p e = executable p 0 (subst⁻¹ (λ (l : List ℕ). 0 < length l) e (omega arith)) (first-executable p)
 
 -- a SETLIST without the word that it owns
 pub breaks-truncated : Executable (oneWord 0x00800022 2) 0 × (T (not (isTruncated (oneWord 0x00800022 2) 0)) → ⊥)
-unfolding isTruncated existing owned claims bindingCount hasExtra wordAt executableAt roleAt roles rolesFrom is C only
+unfolding isTruncated companions existing owned claims bindingCount hasExtra wordAt executableAt roleAt roles rolesFrom is C only
 breaks-truncated = (first 0x00800022 [] (oneWord 0x00800022 2) refl, λ k. k)
 
 -- opcode 63
@@ -197,5 +211,5 @@ unsafe-companion s = all-head (all-tail (s .met)) .executable
 
 -- and some prototype keeps them all: a RETURN of register 0
 pub keeps-all : WellFormed (oneWord 0x0080001e 1)
-unfolding truncationAt executableAt isTruncated existing owned claims bindingCount hasExtra roleAt roles rolesFrom wordAt diagnosticsAt wordDiagnostics opcodeDiagnostics isUnknown knownDiagnostics jumpDiagnostics isJump skipDiagnostics isSkip isLoadboolSkip operandDiagnostics notBelow constantBx upvalueB flagA registerA spanEnds registerIn constantIn childBx bindingWords is B C only flatten flatMap
+unfolding truncationAt executableAt isTruncated companions existing owned claims bindingCount hasExtra roleAt roles rolesFrom wordAt diagnosticsAt wordDiagnostics opcodeDiagnostics isUnknown knownDiagnostics jumpDiagnostics isJump skipDiagnostics isSkip isLoadboolSkip operandDiagnostics notBelow constantBx upvalueB flagA registerA spanEnds registerIn constantIn childBx bindingWords is B C only flatten flatMap
 keeps-all = well-formed-iff-none (oneWord 0x0080001e 1) .1 (λ pc. elim pc [ zero ↦ λ h. (refl, refl) | suc n ↦ λ h. absurd (not-suc-le-zero (le-of-suc-le-suc h)) ])

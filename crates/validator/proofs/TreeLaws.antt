@@ -18,7 +18,7 @@ use Rattle.roles.specs.Refusals.{badDepth}
 use Rattle.validator.specs.Diagnostics.{Step, testedStep, protoSteps}
 use Rattle.validator.specs.Walk.{Walk, MAX-DIAGNOSTICS, countN, start, advance, walkRow, walkFrom, walk}
 use Rattle.validator.specs.Image.{Image, imageProtos, imageWalk}
-use Rattle.validator.specs.Statements.{Accepted}
+use Rattle.validator.specs.Statements.{Accepted, walkChildren, walkByChildren}
 use Rattle.opcodes.proofs.TestLaws.{or-false}
 use Rattle.opcodes.proofs.AllLaws.{all-drop, all-of, all-map}
 use Rattle.roles.proofs.TableLaws.{below-end, below-next, below-split, length-protosOf}
@@ -75,19 +75,6 @@ walk-split incoming row v n m all h =
     ∙ ap (λ (k : ℕ). walkFrom incoming (row + k) (walkFrom incoming row v (take n all)) (take m (drop n all))) (length-take-le n all h)
 
 -- ---- by prototypes and their children
-
--- The children of a prototype of depth d, from the rows that come next on: a test, the child's own steps, its children, and then the rest, past the rows
--- below it. `fuel` is at least the number of those rows
-pub walkChildren : ℕ → ℕ → ℕ → List Row → List (List Step) → ℕ → Walk → Walk
-walkChildren incoming zero d rs all row v = v
-walkChildren incoming (suc fuel) d [] all row v = v
-walkChildren incoming (suc fuel) d (r ∷ rs) [] row v = v
-walkChildren incoming (suc fuel) d (r ∷ rs) (steps ∷ all) row v =
-    let n = length (below (r .depth) rs) in
-    let child = walkRow incoming row (advance incoming row v (testedStep [])) steps in
-    let itsChildren = walkChildren incoming fuel (r .depth) rs all (suc row) child in
-    let rest = walkChildren incoming fuel d (drop n rs) (drop n all) (suc row + n) itsChildren in
-    cond (ltb d (r .depth)) rest v
 
 no-rows : (d : ℕ) → below d [] ≡ []
 unfolding below
@@ -161,8 +148,8 @@ walk-by-children incoming r rs steps all e l b =
 
 -- of an image: row r with the rows after it
 pub image-by-children : (i : Image) (r : Row) (rs : List Row) → Accepted i → rows (i .table) ≡ r ∷ rs
-    → imageWalk i ≡ walkChildren (i .warnings + i .errors) (length rs) (r .depth) rs (map protoSteps (protosOf rs (drop (r .words) (u32s (i .words))))) 1 (walkRow (i .warnings + i .errors) 0 start (protoSteps (protoOf r rs (u32s (i .words)))))
-unfolding Accepted imageWalk imageProtos protos protosOf
+    → imageWalk i ≡ walkByChildren i r rs
+unfolding Accepted imageWalk imageProtos protos protosOf walkByChildren
 image-by-children i r rs a e =
     let kept = image-kept (i .table) (i .words) a in
     let depths : badDepth 0 0 (r ∷ rs) ≡ none = ap (badDepth 0 0) (sym e) ∙ kept .depths in

@@ -18,6 +18,7 @@ pub record Result : Type 0 where
   pub bindings : List ℤ
   pub verdict : Verdict
 
+-- what the definitions say of it
 unfoldable pub result : Image → Result
 result i =
     record {
@@ -26,6 +27,7 @@ result i =
       verdict = verdict i;
     }
 
+-- an image, and what is to be said of it
 pub record Example : Type 0 where
   pub image : Image
   pub expected : Result
@@ -38,6 +40,7 @@ example rows words warnings errors found bound v =
       expected = record { diagnostics = found; bindings = bound; verdict = v };
     }
 
+-- a row of the table
 abbrev row : ℕ → ℕ → ℕ → ℕ → ℕ → List ℕ
 row depth words constants upvalues stack = depth ∷ words ∷ constants ∷ upvalues ∷ stack ∷ []
 
@@ -45,6 +48,7 @@ row depth words constants upvalues stack = depth ∷ words ∷ constants ∷ upv
 abbrev word : ℕ → ℕ → List ℤ → Verdict → Example
 word w stack found v = example (row 0 1 0 0 stack) (w ∷ []) 0 0 found [] v
 
+-- without words
 abbrev empty : ℕ → ℕ → ℕ → List ℤ → Verdict → Example
 empty stack warnings errors found v = example (row 0 0 0 0 stack) [] warnings errors found [] v
 

@@ -1,20 +1,21 @@
 -- Terms that proofs/Theorems uses beside document 01's definitions. Assumes nothing: these are definitions.
-use Prim.Native.Nat.{ℕ, _+_, _≤_, _<_}
+use Prim.Native.Nat.{ℕ, zero, suc, _+_, _≤_, _<_}
 use mathlib.Core.Path.{_≡_}
 use mathlib.Core.Logic.{_≢_, _↔_, _⊎_}
-use mathlib.Core.List.{List, [], _∷_, flatMap, flatten}
+use mathlib.Core.List.{List, [], _∷_, map, flatMap, flatten}
 use mathlib.Core.Option.{none}
-use mathlib.Core.Bool.{Bool, not}
-use lib.Dec.{T}
-use lib.ListN.{length}
+use mathlib.Core.Bool.{Bool, not, cond}
+use lib.Dec.{T, ltb}
+use lib.ListN.{length, drop}
 use Rattle.opcodes.specs.Lists.{All, Some, select, upFrom}
 use Rattle.opcodes.specs.Words.{B, C}
-use Rattle.roles.specs.Table.{Proto}
+use Rattle.opcodes.specs.Bytes.{u32s}
+use Rattle.roles.specs.Table.{Row, below, Proto, protoOf, protosOf}
 use Rattle.roles.specs.Roles.{wordAt, isTruncated, bindingWords}
 use Rattle.roles.specs.Refusals.{imageRefusal}
 use Rattle.validator.specs.Operands.{isUnknown, constantBx, upvalueB, flagA, registerA, spanEnds, registerIn, constantIn, childBx}
-use Rattle.validator.specs.Diagnostics.{hasLargeStack, truncationAt, opcodeDiagnostics, jumpDiagnostics, skipDiagnostics, notBelow, bindingDiagnostics}
-use Rattle.validator.specs.Walk.{RowDiagnostic, MAX-DIAGNOSTICS, ValidForParser, Invalid}
+use Rattle.validator.specs.Diagnostics.{hasLargeStack, truncationAt, opcodeDiagnostics, jumpDiagnostics, skipDiagnostics, notBelow, bindingDiagnostics, Step, testedStep, protoSteps}
+use Rattle.validator.specs.Walk.{RowDiagnostic, MAX-DIAGNOSTICS, Walk, start, advance, walkRow, ValidForParser, Invalid}
 use Rattle.validator.specs.Image.{Image, imageProtos, diagnostics, verdict}
 use Rattle.validator.specs.Check.{Checked}
 use Rattle.validator.specs.Rules.{Below, registersOf, constantsOf, JumpKept, BindingKept, WellFormed}
@@ -47,6 +48,27 @@ pub record RulesByCodes (p : Proto) (pc : ℕ) : Type 0 where
   pub proto : Below (length (p .children)) (childBx (wordAt p pc)) ↔ (notBelow pc 16 (length (p .children)) (childBx (wordAt p pc)) ≡ [])
   pub binding : ((j : ℕ) → j < bindingWords p pc → BindingKept p (wordAt p (pc + 1 + j))) ↔ (flatMap (bindingDiagnostics p) (upFrom (pc + 1) (bindingWords p pc)) ≡ [])
 
+-- The children of a prototype of depth d, from the rows that come next on: a test, the child's own steps, its children, and then the rest, past the rows
+-- below it. `fuel` is at least the number of those rows
+unfoldable pub walkChildren : ℕ → ℕ → ℕ → List Row → List (List Step) → ℕ → Walk → Walk
+walkChildren incoming zero d rs all row v = v
+walkChildren incoming (suc fuel) d [] all row v = v
+walkChildren incoming (suc fuel) d (r ∷ rs) [] row v = v
+walkChildren incoming (suc fuel) d (r ∷ rs) (steps ∷ all) row v =
+    let n = length (below (r .depth) rs) in
+    let child = walkRow incoming row (advance incoming row v (testedStep [])) steps in
+    let itsChildren = walkChildren incoming fuel (r .depth) rs all (suc row) child in
+    let rest = walkChildren incoming fuel d (drop n rs) (drop n all) (suc row + n) itsChildren in
+    cond (ltb d (r .depth)) rest v
+
+-- the walk over an image by prototypes and their children: row 0's own steps, and then its children
+unfoldable pub walkByChildren : Image → Row → List Row → Walk
+walkByChildren i r rs =
+    let incoming = i .warnings + i .errors in
+    let words = u32s (i .words) in
+    let later = protosOf rs (drop (r .words) words) in
+    walkChildren incoming (length rs) (r .depth) rs (map protoSteps later) 1 (walkRow incoming 0 start (protoSteps (protoOf r rs words)))
+
 -- a prototype that keeps the rules and of which every run is safe
 pub record Passed (p : Proto) : Type 0 where
   pub wellFormed : WellFormed p
@@ -63,5 +85,5 @@ pub record Guarantee (i : Image) (c : Checked) : Type 0 where
   pub exact : i .errors ≡ 0 → i .warnings + largeStacks (imageProtos i) < MAX-DIAGNOSTICS → (c .verdict ≡ ValidForParser) ↔ All WellFormed (imageProtos i)
   -- Invalid exactly when an error came in or was found
   pub invalid : (c .verdict ≡ Invalid) ↔ ((0 < i .errors) ⊎ Some IsError (diagnostics i))
-  -- as many diagnostics at most
+  -- and at most so many diagnostics
   pub most : c .count ≤ 10255

@@ -1,17 +1,18 @@
 -- Laws of numbers in bytes and of overwritten buffers. Assumes nothing.
 use Prim.Native.Nat.{ℕ, zero, suc, _+_, _-_, _*_, _/_, _%_, _≤_, _<_, _^_}
-use native.Mathlib.Nat.{add-zero, add-assoc, div-div-eq-div-mul, mod-eq-of-lt, not-suc-le-zero, le-of-suc-le-suc}
+use native.Mathlib.Nat.{add-zero, zero-add, add-assoc, div-div-eq-div-mul, mod-eq-of-lt, not-suc-le-zero, le-of-suc-le-suc}
 use native.Mathlib.Numerals.{add-one}
 use native.Mathlib.Omega.{arith}
 use mathlib.Core.Path.{_≡_, refl, sym, ap, ap₂, _∙_}
 use mathlib.Core.Bool.{Bool, true, false, cond, not}
-use mathlib.Core.List.{List, [], _∷_, _++_, append-assoc, append-nil, flatMap}
+use mathlib.Core.List.{List, [], _∷_, _++_, append-assoc, append-nil, flatMap, map}
 use borrow.Author.Tests.{le-leb, lt-leb, leb-true, leb-false, not-true, not-false}
 use lib.Dec.{leb}
-use lib.ListN.{length, getD, take, drop, length-append, length-take, length-drop, take-append-drop}
+use lib.ListN.{length, getD, take, drop, length-append, length-map, length-take, length-drop, take-append-drop}
+use lib.IntN.{ℤ}
 use lib.Seq.{sets, sets-eq, take-at, drop-drop, drop-append-add, getD-append-add, length-take-le, take-suc, ext-getD}
 use Rattle.opcodes.specs.Lists.{All, all-cons}
-use Rattle.opcodes.specs.Bytes.{overwrite, u32At, u32Bytes, u32Record, u32s}
+use Rattle.opcodes.specs.Bytes.{overwrite, u32At, u32Bytes, u32Record, u32s, i32Bits, i32Record}
 use Rattle.opcodes.proofs.ListLaws.{getD-tabulate, length-tabulate}
 
 -- ---- the u32 of a byte list
@@ -35,6 +36,10 @@ unfolding u32Record flatMap
 length-u32Record [] = refl
 length-u32Record (n ∷ ns) = length-append (u32Bytes n) (flatMap u32Bytes ns) ∙ omega (arith, length-u32Bytes n, length-u32Record ns)
 
+pub length-i32Record : (zs : List ℤ) → length (i32Record zs) ≡ 4 * length zs
+unfolding i32Record
+length-i32Record zs = length-u32Record (map i32Bits zs) ∙ ap (λ (n : ℕ). 4 * n) (length-map zs i32Bits)
+
 -- ---- overwriting
 
 -- a write that fits, and one that does not
@@ -45,6 +50,10 @@ overwrite-fits old at new h = simp (le-leb _ _ h)
 pub overwrite-unfit : (old : List ℕ) (at : ℕ) (new : List ℕ) → length old < at + length new → overwrite old at new ≡ old
 unfolding overwrite
 overwrite-unfit old at new h = simp (lt-leb _ _ h)
+
+-- a write to the front of a buffer
+pub overwrite-front : (old new : List ℕ) → length new ≤ length old → overwrite old 0 new ≡ new ++ drop (length new) old
+overwrite-front old new h = overwrite-fits old 0 new (omega arith) ∙ ap (λ (n : ℕ). new ++ drop n old) (zero-add (length new))
 
 -- stores one after the other are one write
 pub sets-overwrite : (old : List ℕ) (at : ℕ) (new : List ℕ) → at + length new ≤ length old → sets old at new ≡ overwrite old at new

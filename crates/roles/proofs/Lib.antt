@@ -4,3 +4,4 @@ pub mod RoleBufferLaws
 pub mod RoleLaws
 pub mod TableLaws
 pub mod UntouchedLaws
+pub mod WrittenLaws

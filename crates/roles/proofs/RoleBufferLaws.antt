@@ -63,7 +63,7 @@ index-below ps k pc p h l = flatMap-index roles ps k pc p h (omega (arith, lengt
 abbrev Small : ℤ → Type 0
 Small z = i32Bits z < 2 ^ 32
 
-length-roleFields : (r : Role) → length (roleFields r) ≡ 2
+pub length-roleFields : (r : Role) → length (roleFields r) ≡ 2
 unfolding roleFields
 length-roleFields Instruction = refl
 length-roleFields (ClosureBinding owner index) = refl

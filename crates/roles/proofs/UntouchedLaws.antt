@@ -39,5 +39,5 @@ pub bindings-untouched : (table words roles bindings : List â„•) (r : Refused) â
 unfolding bindingsAnswer bindingsAfter bindingsRefusal rolesAfter
 bindings-untouched table words roles bindings r e = (
   refused-leaves (bindingsRefusal table words (length roles) (length bindings)) _ r bindings _ e,
-  refused-before (rolesRefusal table words (length roles)) _ 12 (length bindings) _ r roles _ e,
+  refused-before (rolesRefusal table words (length roles)) _ _ (length bindings) _ r roles _ e,
 )

@@ -1,33 +1,27 @@
--- What an accepted check call says of its image, and what a refused one leaves. Assumes nothing.
-use Prim.Native.Nat.{ℕ, _≤_}
+-- What an accepted check call says of its image and writes, and what a refused one leaves. Assumes nothing.
+use Prim.Native.Nat.{ℕ, _*_, _≤_}
 use native.Mathlib.Omega.{arith}
 use mathlib.Core.Path.{_≡_, refl, sym, _∙_, ap, subst⁻¹}
 use mathlib.Core.Logic.{_↔_, _⊎_}
-use mathlib.Core.List.{List}
-use mathlib.Core.Option.{Option, none, some}
-use lib.ListN.{length}
-use Rattle.roles.specs.Refusals.{Refused, rolesRefusal}
-use Rattle.roles.specs.Calls.{accepted, refused, answer, rolesAfter}
-use Rattle.validator.specs.Walk.{Verdict}
-use Rattle.validator.specs.Image.{Image, diagnostics, verdict}
+use mathlib.Core.List.{List, _++_, flatMap}
+use lib.ListN.{length, drop}
+use Rattle.opcodes.specs.Bytes.{i32Record}
+use Rattle.roles.specs.Table.{rows}
+use Rattle.roles.specs.Roles.{roleRecords}
+use Rattle.roles.specs.Refusals.{Refused, rolesRefusal, wordTotal}
+use Rattle.roles.specs.Calls.{accepted, refused, rolesAfter}
+use Rattle.validator.specs.Walk.{Verdict, diagnosticFields}
+use Rattle.validator.specs.Image.{Image, imageProtos, diagnostics, verdict}
 use Rattle.validator.specs.Check.{Checked, checked, checkRefusal, checkAnswer, diagnosticsAfter}
 use Rattle.validator.specs.Statements.{Accepted, Guarantee}
 use Rattle.opcodes.proofs.AllLaws.{all-imp}
 use Rattle.roles.proofs.UntouchedLaws.{refused-leaves, refused-before}
+use Rattle.opcodes.proofs.ListLaws.{length-flatMap}
+use Rattle.roles.proofs.WrittenLaws.{accepted-none, accepted-result, written, fits, roles-written}
 use Rattle.roles.proofs.RefusalLaws.{orElse-none}
 use Rattle.validator.proofs.ExecutionLaws.{runs-safe}
 use Rattle.validator.proofs.WalkLaws.{valid-well-formed, well-formed-valid, invalid-iff}
 use Rattle.validator.proofs.LimitLaws.{at-most}
-
--- an accepted answer: no refusal, and the result
-record IsAccepted {A : Type 0} (r : Option Refused) (a c : A) : Type 0 where
-  none : r ≡ none
-  same : c ≡ a
-
-accepted-is : {A : Type 0} (r : Option Refused) (a c : A) → answer r a ≡ accepted c → IsAccepted r a c
-unfolding answer
-accepted-is (some x) a c e = let z : _≡_ {A = ℕ} 0 1 = cc in absurd (omega arith)
-accepted-is none a c e = record { none = refl; same = cc }
 
 -- a verdict under another name
 verdict-iff : {u v w : Verdict} {X : Type 0} → u ≡ v → (v ≡ w) ↔ X → (u ≡ w) ↔ X
@@ -36,10 +30,10 @@ verdict-iff e i = (λ q. i .0 (sym e ∙ q), λ x. e ∙ i .1 x)
 pub check-guaranteed : (i : Image) (roleLength diagnosticLength : ℕ) (c : Checked) → checkAnswer i roleLength diagnosticLength ≡ accepted c → Guarantee i c
 unfolding checkAnswer checkRefusal checked rolesRefusal Accepted
 check-guaranteed i roleLength diagnosticLength c e =
-    let k = accepted-is (checkRefusal i roleLength diagnosticLength) (checked i) c e in
-    let v : c .verdict ≡ verdict i = ap (λ (x : Checked). x .verdict) (k .same) in
-    let n : c .count ≡ length (diagnostics i) = ap (λ (x : Checked). x .count) (k .same) in
-    let a : Accepted i = orElse-none _ _ (orElse-none _ _ (k .none) .0) .0 in
+    let k = accepted-result (checkRefusal i roleLength diagnosticLength) (checked i) c e in
+    let v : c .verdict ≡ verdict i = ap (λ (x : Checked). x .verdict) k in
+    let n : c .count ≡ length (diagnostics i) = ap (λ (x : Checked). x .count) k in
+    let a : Accepted i = orElse-none _ _ (orElse-none _ _ (accepted-none (checkRefusal i roleLength diagnosticLength) (checked i) c e) .0) .0 in
     record {
       verdict = v;
       count = n;
@@ -55,5 +49,22 @@ pub check-untouched : (i : Image) (roles buffer : List ℕ) (r : Refused) → ch
 unfolding checkAnswer checkRefusal diagnosticsAfter rolesAfter
 check-untouched i roles buffer r e = (
   refused-leaves (checkRefusal i (length roles) (length buffer)) _ r buffer _ e,
-  refused-before (rolesRefusal (i .table) (i .words) (length roles)) _ 16 (length buffer) _ r roles _ e,
+  refused-before (rolesRefusal (i .table) (i .words) (length roles)) _ _ (length buffer) _ r roles _ e,
 )
+
+-- an accepted one leaves its records in front of both buffers
+pub check-written : (i : Image) (roles buffer : List ℕ) (c : Checked) → checkAnswer i (length roles) (length buffer) ≡ accepted c
+    → (diagnosticsAfter i (length roles) buffer ≡ i32Record (flatMap diagnosticFields (diagnostics i)) ++ drop (16 * length (diagnostics i)) buffer)
+    × (rolesAfter (i .table) (i .words) roles ≡ i32Record (roleRecords (imageProtos i)) ++ drop (8 * wordTotal (rows (i .table))) roles)
+unfolding checkAnswer checkRefusal diagnosticsAfter diagnosticFields imageProtos
+check-written i roles buffer c e =
+    let ds = diagnostics i in
+    let zs = flatMap diagnosticFields ds in
+    let n = accepted-none (checkRefusal i (length roles) (length buffer)) (checked i) c e in
+    let o = orElse-none (rolesRefusal (i .table) (i .words) (length roles)) _ n in
+    let room = fits (length ds) _ (length buffer) (o .1) in
+    let count : length zs ≡ 4 * length ds = length-flatMap diagnosticFields 4 (λ d. refl) ds in
+    let size : 4 * length zs ≡ 16 * length ds = omega arith in (
+      written (checkRefusal i (length roles) (length buffer)) buffer zs n (omega arith) ∙ ap (λ (k : ℕ). i32Record zs ++ drop k buffer) size,
+      roles-written (i .table) (i .words) roles (o .0),
+    )

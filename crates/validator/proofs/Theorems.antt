@@ -1,6 +1,6 @@
 -- What is proved of document 01's definitions. Open this file first: each theorem stands under the sentence that it states, and its proof cites a law of
 -- the modules beside it; the witnesses at the end are computed here. The definitions are in specs/, but for one image, `fullest` in MostLaws. Assumes nothing.
-use Prim.Native.Nat.{ℕ, zero, suc, _+_, _≤_, _<_}
+use Prim.Native.Nat.{ℕ, zero, suc, _+_, _*_, _≤_, _<_}
 use native.Mathlib.Nat.{not-suc-le-zero, le-of-suc-le-suc}
 use native.Mathlib.Omega.{arith}
 use mathlib.Core.Path.{_≡_, refl, subst⁻¹}
@@ -8,16 +8,18 @@ use mathlib.Core.Logic.{_↔_, _⊎_}
 use mathlib.Core.Bool.{Bool, true, false, not}
 use mathlib.Core.List.{List, [], _∷_, _++_, map, flatMap, flatten}
 use lib.Dec.{T}
-use lib.ListN.{length, getD, set}
+use lib.ListN.{length, getD, drop, set}
 use Rattle.opcodes.specs.Lists.{All, Some, only}
 use Rattle.opcodes.specs.Words.{is, B, C}
-use Rattle.roles.specs.Table.{Row, rows, Proto}
-use Rattle.roles.specs.Roles.{Instruction, isExecutable, Executable, bindingCount, hasExtra, claims, rolesFrom, roles, roleAt, wordAt, executableAt, owned, existing, companions, isTruncated, bindingWords}
-use Rattle.roles.specs.Refusals.{Refused}
-use Rattle.roles.specs.Calls.{accepted, refused, rolesAnswer, rolesAfter, bindingsAnswer, bindingsAfter}
+use Rattle.roles.specs.Table.{Row, rows, Proto, protos}
+use Rattle.roles.specs.Roles.{Instruction, isExecutable, Executable, bindingCount, hasExtra, claims, rolesFrom, roles, roleAt, wordAt, executableAt, owned, existing, companions, isTruncated, bindingWords, roleRecords}
+use Rattle.opcodes.specs.Bytes.{i32Record}
+use Rattle.roles.specs.Bindings.{bindingFields}
+use Rattle.roles.specs.Refusals.{Refused, wordTotal}
+use Rattle.roles.specs.Calls.{accepted, refused, rolesAnswer, rolesAfter, imageBindings, bindingsRefusal, bindingsAnswer, bindingsAfter}
 use Rattle.validator.specs.Operands.{isUnknown, isBinding, target, isJump, isSkip, isLoadboolSkip, constantBx, upvalueB, flagA, registerA, spanEnds, registerIn, constantIn, childBx}
 use Rattle.validator.specs.Diagnostics.{Step, testedStep, protoSteps, truncationAt, opcodeDiagnostics, jumpDiagnostics, skipDiagnostics, notBelow, operandDiagnostics, knownDiagnostics, wordDiagnostics, diagnosticsAt}
-use Rattle.validator.specs.Walk.{Walk, inRow, countN, advance, MAX-DIAGNOSTICS, ValidForParser, Invalid}
+use Rattle.validator.specs.Walk.{Walk, inRow, diagnosticFields, countN, advance, MAX-DIAGNOSTICS, ValidForParser, Invalid}
 use Rattle.validator.specs.Image.{Image, imageProtos, imageWalk, diagnostics, verdict}
 use Rattle.validator.specs.Check.{Checked, checkAnswer, diagnosticsAfter}
 use Rattle.validator.specs.Rules.{Below, registersOf, constantsOf, JumpKept, BindingKept, WellFormed}
@@ -25,6 +27,8 @@ use Rattle.validator.specs.Executions.{arrive, next, meet, runFrom, run,
 use Rattle.validator.specs.Statements.{Accepted, largeStacks, IsError, RulesByCodes, walkByChildren, Passed, Guarantee}
 use Rattle.validator.specs.Examples.{result, examples, misreadings, runExamples}
 use Rattle.opcodes.proofs.AllLaws.{all-head, all-tail, all-imp}
+use Rattle.roles.proofs.RefusalLaws.{orElse-none}
+use Rattle.roles.proofs.WrittenLaws.{accepted-none, roles-written, bindings-written}
 use Rattle.roles.proofs.UntouchedLaws.{roles-untouched, bindings-untouched}
 use Rattle.roles.proofs.RoleLaws.{executable, first-executable, owned-role, companion-unread}
 use Rattle.validator.proofs.RuleLaws.{well-formed-iff-none, rules-by-codes}
@@ -33,7 +37,7 @@ use Rattle.validator.proofs.WalkLaws.{valid-well-formed, well-formed-va
 use Rattle.validator.proofs.LimitLaws.{at-most}
 use Rattle.validator.proofs.MostLaws.{fullest, fullest-accepted, fullest-count}
 use Rattle.validator.proofs.TreeLaws.{image-by-children}
-use Rattle.validator.proofs.GuaranteeLaws.{check-guaranteed, check-untouched}
+use Rattle.validator.proofs.GuaranteeLaws.{check-guaranteed, check-untouched, check-written}
 use Rattle.validator.proofs.ExampleLaws.{examples-hold, misreadings-excluded, runs-hold}
 
 -- ---- the rules are the conditions of the diagnostics
@@ -133,6 +137,26 @@ bindings-call-refused table words roles bindings r e = bindings-untouched table 
 pub check-call-refused : (i : Image) (roles buffer : List ℕ) (r : Refused) → checkAnswer i (length roles) (length buffer) ≡ refused r
     → (diagnosticsAfter i (length roles) buffer ≡ buffer) × ((r .number ≡ 8) ⊎ (rolesAfter (i .table) (i .words) roles ≡ roles))
 check-call-refused i roles buffer r e = check-untouched i roles buffer r e
+
+-- ---- an accepted call's records fit and stand in front of its buffers, and "what lies past the records is unchanged"
+
+pub roles-call-accepted : (table words roles : List ℕ) (n : ℕ) → rolesAnswer table words (length roles) ≡ accepted n
+    → rolesAfter table words roles ≡ i32Record (roleRecords (protos table words)) ++ drop (8 * wordTotal (rows table)) roles
+unfolding rolesAnswer
+roles-call-accepted table words roles n e = roles-written table words roles (accepted-none _ _ n e)
+
+pub bindings-call-accepted : (table words roles bindings : List ℕ) (n : ℕ) → bindingsAnswer table words (length roles) (length bindings) ≡ accepted n
+    → (bindingsAfter table words (length roles) bindings ≡ i32Record (flatMap bindingFields (imageBindings table words)) ++ drop (12 * length (imageBindings table words)) bindings)
+    × (rolesAfter table words roles ≡ i32Record (roleRecords (protos table words)) ++ drop (8 * wordTotal (rows table)) roles)
+unfolding bindingsAnswer bindingsRefusal
+bindings-call-accepted table words roles bindings n e =
+    let none = accepted-none (bindingsRefusal table words (length roles) (length bindings)) _ n e in
+    (bindings-written table words bindings (length roles) none, roles-written table words roles (orElse-none _ _ none .0))
+
+pub check-call-accepted : (i : Image) (roles buffer : List ℕ) (c : Checked) → checkAnswer i (length roles) (length buffer) ≡ accepted c
+    → (diagnosticsAfter i (length roles) buffer ≡ i32Record (flatMap diagnosticFields (diagnostics i)) ++ drop (16 * length (diagnostics i)) buffer)
+    × (rolesAfter (i .table) (i .words) roles ≡ i32Record (roleRecords (imageProtos i)) ++ drop (8 * wordTotal (rows (i .table))) roles)
+check-call-accepted i roles buffer c e = check-written i roles buffer c e
 
 -- ---- the claims are not empty: for each rule a prototype whose first word is executable and breaks it. (For each verdict the table has an image)
 

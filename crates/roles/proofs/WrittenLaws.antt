@@ -1,0 +1,71 @@
+-- What an accepted call writes: its records fit, stand in front, and what lies past them is unchanged. Assumes nothing.
+use Prim.Native.Nat.{ℕ, _*_, _≤_}
+use native.Mathlib.Omega.{arith}
+use mathlib.Core.Path.{_≡_, refl, _∙_, ap}
+use mathlib.Core.List.{List, _++_, flatMap}
+use mathlib.Core.Option.{Option, none, some}
+use lib.IntN.{ℤ}
+use lib.ListN.{length, drop}
+use borrow.Author.Tests.{ltb-false}
+use Rattle.opcodes.specs.Bytes.{i32Record}
+use Rattle.roles.specs.Table.{rows, protos}
+use Rattle.roles.specs.Roles.{roles, roleFields, roleRecords}
+use Rattle.roles.specs.Bindings.{bindingFields}
+use Rattle.roles.specs.Refusals.{Refused, tooShort, imageRefusal, rolesRefusal, wordTotal}
+use Rattle.roles.specs.Calls.{answer, accepted, filled, rolesAfter, imageBindings, bindingsRefusal, bindingsAfter}
+use Rattle.opcodes.proofs.ByteLaws.{length-i32Record, overwrite-front}
+use Rattle.opcodes.proofs.ListLaws.{length-flatMap}
+use Rattle.roles.proofs.RefusalLaws.{orElse-none, refuseIf-none, image-kept}
+use Rattle.roles.proofs.RoleBufferLaws.{length-roleFields, length-all-roles}
+
+-- an accepted answer has no refusal, and is the result
+pub accepted-none : {A : Type 0} (o : Option Refused) (a c : A) → answer o a ≡ accepted c → o ≡ none
+unfolding answer
+accepted-none none a c e = refl
+accepted-none (some x) a c e = let z : _≡_ {A = ℕ} 0 1 = cc in absurd (omega arith)
+
+pub accepted-result : {A : Type 0} (o : Option Refused) (a c : A) → answer o a ≡ accepted c → c ≡ a
+unfolding answer
+accepted-result none a c e = cc
+accepted-result (some x) a c e = let z : _≡_ {A = ℕ} 0 1 = cc in absurd (omega arith)
+
+-- a buffer that no refusal guards, and into which the records fit
+pub written : (o : Option Refused) (old : List ℕ) (zs : List ℤ) → o ≡ none → 4 * length zs ≤ length old → filled o old (i32Record zs) ≡ i32Record zs ++ drop (4 * length zs) old
+unfolding filled
+written o old zs e h =
+    let size = length-i32Record zs in
+    ap (λ (p : Option Refused). filled p old (i32Record zs)) e
+    ∙ overwrite-front old (i32Record zs) (omega arith)
+    ∙ ap (λ (n : ℕ). i32Record zs ++ drop n old) size
+
+-- 8 does not apply: the records fit
+pub fits : (records size room : ℕ) → tooShort records size room ≡ none → records * size ≤ room
+unfolding tooShort
+fits records size room e = ltb-false room (records * size) (refuseIf-none _ 8 records e)
+
+-- ---- the role buffer: two i32 a word
+
+pub roles-written : (table words old : List ℕ) → rolesRefusal table words (length old) ≡ none
+    → rolesAfter table words old ≡ i32Record (roleRecords (protos table words)) ++ drop (8 * wordTotal (rows table)) old
+unfolding rolesAfter rolesRefusal roleRecords
+roles-written table words old e =
+    let zs = roleRecords (protos table words) in
+    let n = orElse-none (imageRefusal table words) _ e in
+    let room : 8 * wordTotal (rows table) ≤ length old = ltb-false _ _ (refuseIf-none _ 7 0 (n .1)) in
+    let count : length zs ≡ 2 * wordTotal (rows table) =
+    length-flatMap roleFields 2 length-roleFields (flatMap roles (protos table words)) ∙ ap (λ (k : ℕ). 2 * k) (length-all-roles table words (image-kept table words (n .0))) in
+    let size : 4 * length zs ≡ 8 * wordTotal (rows table) = omega arith in
+    written (rolesRefusal table words (length old)) old zs e (omega arith) ∙ ap (λ (k : ℕ). i32Record zs ++ drop k old) size
+
+-- ---- the bindings buffer: three i32 a record
+
+pub bindings-written : (table words old : List ℕ) (roleLength : ℕ) → bindingsRefusal table words roleLength (length old) ≡ none
+    → bindingsAfter table words roleLength old ≡ i32Record (flatMap bindingFields (imageBindings table words)) ++ drop (12 * length (imageBindings table words)) old
+unfolding bindingsAfter bindingsRefusal bindingFields
+bindings-written table words old roleLength e =
+    let bs = imageBindings table words in
+    let zs = flatMap bindingFields bs in
+    let room = fits (length bs) _ (length old) (orElse-none (rolesRefusal table words roleLength) _ e .1) in
+    let count : length zs ≡ 3 * length bs = length-flatMap bindingFields 3 (λ b. refl) bs in
+    let size : 4 * length zs ≡ 12 * length bs = omega arith in
+    written (bindingsRefusal table words roleLength (length old)) old zs e (omega arith) ∙ ap (λ (k : ℕ). i32Record zs ++ drop k old) size

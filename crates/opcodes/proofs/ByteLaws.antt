@@ -13,7 +13,7 @@ use lib.IntN.{ℤ}
 use lib.Seq.{sets, sets-eq, take-at, drop-drop, drop-append-add, getD-append-add, length-take-le, take-suc, ext-getD}
 use Rattle.opcodes.specs.Lists.{All, all-cons}
 use Rattle.opcodes.specs.Bytes.{overwrite, u32At, u32Bytes, u32Record, u32s, i32Bits, i32Record}
-use Rattle.opcodes.proofs.ListLaws.{getD-tabulate, length-tabulate}
+use Rattle.opcodes.proofs.ListLaws.{getD-tabulate, length-tabulate, flatMap-append}
 
 -- ---- the u32 of a byte list
 
@@ -102,10 +102,13 @@ module _ (old : List ℕ) (at : ℕ) (new more : List ℕ) (fits : at + length n
 
 -- ---- a record, value by value
 
+pub u32Record-append : (ms ns : List ℕ) → u32Record (ms ++ ns) ≡ u32Record ms ++ u32Record ns
+unfolding u32Record
+u32Record-append ms ns = flatMap-append u32Bytes ms ns
+
 u32Record-snoc : (ns : List ℕ) (n : ℕ) → u32Record (ns ++ (n ∷ [])) ≡ u32Record ns ++ u32Bytes n
 unfolding u32Record flatMap
-u32Record-snoc [] n = append-nil (u32Bytes n)
-u32Record-snoc (m ∷ ns) n = ap (λ (l : List ℕ). u32Bytes m ++ l) (u32Record-snoc ns n) ∙ sym (append-assoc (u32Bytes m) (flatMap u32Bytes ns) (u32Bytes n))
+u32Record-snoc ns n = u32Record-append ns (n ∷ []) ∙ ap (λ (l : List ℕ). u32Record ns ++ l) (append-nil (u32Bytes n))
 
 pub record-none : (old : List ℕ) (at : ℕ) → overwrite old at (u32Record []) ≡ old
 unfolding u32Record flatMap

@@ -1,9 +1,9 @@
 -- Laws of the shared lists. Assumes nothing.
-use Prim.Native.Nat.{ℕ, zero, suc, _+_, _*_, _<_}
+use Prim.Native.Nat.{ℕ, zero, suc, _+_, _*_, _≤_, _<_}
 use native.Mathlib.Nat.{add-zero, zero-add, add-suc, suc-add, mul-zero, mul-suc, not-suc-le-zero, le-of-suc-le-suc}
 use native.Mathlib.Omega.{arith}
 use mathlib.Core.Path.{_≡_, refl, sym, _∙_, ap}
-use mathlib.Core.List.{List, [], _∷_, _++_, map, flatMap}
+use mathlib.Core.List.{List, [], _∷_, _++_, map, flatMap, append-assoc}
 use lib.ListN.{length, getD, take, length-append, length-map, List·getD-append}
 use lib.Seq.{getD-append-add}
 use Rattle.opcodes.specs.Lists.{upFrom, tabulate}
@@ -24,9 +24,30 @@ length-tabulate f n = length-map (upFrom 0 n) f ∙ length-upFrom 0 n
 pub getD-tabulate : {A : Type 0} (f : ℕ → A) (n k : ℕ) (d : A) → k < n → getD (tabulate n f) k d ≡ f k
 getD-tabulate f n k d h = getD-map-upFrom f 0 n k d h ∙ ap f (zero-add k)
 
+-- one value more, and the first m of them
+map-upFrom-next : {A : Type 0} (f : ℕ → A) (i n : ℕ) → map f (upFrom i (suc n)) ≡ map f (upFrom i n) ++ (f (i + n) ∷ [])
+map-upFrom-next f i zero = rw add-zero
+map-upFrom-next f i (suc n) = ap (λ (l : List _). f i ∷ l) (map-upFrom-next f (suc i) n ∙ rw (suc-add, add-suc))
+
+pub tabulate-next : {A : Type 0} (f : ℕ → A) (n : ℕ) → tabulate (suc n) f ≡ tabulate n f ++ (f n ∷ [])
+tabulate-next f n = map-upFrom-next f 0 n ∙ rw zero-add
+
+take-map-upFrom : {A : Type 0} (f : ℕ → A) (i m n : ℕ) → m ≤ n → take m (map f (upFrom i n)) ≡ map f (upFrom i m)
+take-map-upFrom f i zero n h = refl
+take-map-upFrom f i (suc m) zero h = absurd (not-suc-le-zero h)
+take-map-upFrom f i (suc m) (suc n) h = ap (λ (l : List _). f i ∷ l) (take-map-upFrom f (suc i) m n (le-of-suc-le-suc h))
+
+pub take-tabulate : {A : Type 0} (f : ℕ → A) (m n : ℕ) → m ≤ n → take m (tabulate n f) ≡ tabulate m f
+take-tabulate f m n h = take-map-upFrom f 0 m n h
+
 -- ---- lists end to end
 
 module _ {A B : Type 0} (f : A → List B) where
+  pub flatMap-append : (xs ys : List A) → flatMap f (xs ++ ys) ≡ flatMap f xs ++ flatMap f ys
+  unfolding flatMap
+  flatMap-append [] ys = refl
+  flatMap-append (x ∷ xs) ys = ap (λ (l : List B). f x ++ l) (flatMap-append xs ys) ∙ sym (append-assoc (f x) (flatMap f xs) (flatMap f ys))
+
   -- element j of that of entry k, counted over all of them
   pub getD-flatMap : (xs : List A) (k j : ℕ) (e : A) (d : B) → k < length xs → j < length (f (getD xs k e))
       → getD (flatMap f xs) (length (flatMap f (take k xs)) + j) d ≡ getD (f (getD xs k e)) j d

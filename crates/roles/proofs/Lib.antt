@@ -1,7 +1,15 @@
 pub mod ExampleLaws
+pub mod ImageCheckLaws
+pub mod OwnerLaws
 pub mod RefusalLaws
 pub mod RoleBufferLaws
+pub mod RoleFillLaws
 pub mod RoleLaws
+pub mod RolePassLaws
+pub mod RoleRecordLaws
+pub mod RolesCallLaws
+pub mod RowCheckLaws
+pub mod SearchLaws
 pub mod TableLaws
 pub mod UntouchedLaws
 pub mod WrittenLaws

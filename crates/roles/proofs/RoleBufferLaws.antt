@@ -35,7 +35,7 @@ unfolding roles
 length-roles p = length-rolesFrom p 0 [] (p .code)
 
 -- the words of the prototypes before
-pub wordsBefore : List Proto → ℕ → ℕ
+unfoldable pub wordsBefore : List Proto → ℕ → ℕ
 wordsBefore ps k = length (flatMap roles (take k ps))
 
 -- are those that the rows state, where there are enough

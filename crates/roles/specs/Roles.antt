@@ -6,6 +6,7 @@ use lib.Dec.{T, eqb, ltb}
 use lib.ListN.{length, getD}
 use lib.IntN.{ℤ, pos, negsuc}
 use Rattle.opcodes.specs.Lists.{only, tabulate}
+use Rattle.opcodes.specs.Bytes.{i32Record}
 use Rattle.opcodes.specs.Words.{is, fieldBx, operand, C, CLOSURE, SETLIST}
 use Rattle.roles.specs.Table.{Proto}
 
@@ -85,6 +86,14 @@ unfoldable pub roleFields : Role → List ℤ
 roleFields Instruction = negsuc 0 ∷ negsuc 0 ∷ []
 roleFields (ClosureBinding owner index) = pos owner ∷ pos index ∷ []
 roleFields (SetlistExtra owner) = pos owner ∷ negsuc 0 ∷ []
+
+-- the length of such a record in bytes
+abbrev pub roleBytes : ℕ
+roleBytes = 8
+
+-- the records of roles, as bytes
+unfoldable pub recordsOf : List Role → List ℕ
+recordsOf rs = i32Record (flatMap roleFields rs)
 
 -- of all words of all prototypes
 unfoldable pub roleRecords : List Proto → List ℤ

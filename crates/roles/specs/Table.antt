@@ -25,16 +25,20 @@ rowFields = 5
 abbrev pub rowBytes : ℕ
 rowBytes = 20
 
--- row i of a table as bytes
+-- field k of row i of a table as bytes
+abbrev pub fieldAt : List ℕ → ℕ → ℕ → ℕ
+fieldAt table i k = u32At table (rowBytes * i + 4 * k)
+
+-- row i
 unfoldable pub rowAt : List ℕ → ℕ → Row
 rowAt table i =
     record {
       row = i;
-      depth = u32At table (rowBytes * i);
-      words = u32At table (rowBytes * i + 4);
-      constants = u32At table (rowBytes * i + 8);
-      upvalues = u32At table (rowBytes * i + 12);
-      stack = u32At table (rowBytes * i + 16);
+      depth = fieldAt table i 0;
+      words = fieldAt table i 1;
+      constants = fieldAt table i 2;
+      upvalues = fieldAt table i 3;
+      stack = fieldAt table i 4;
     }
 
 -- all whole rows

@@ -1,1 +1,7 @@
-// The prototype table, roles and upvalue bindings: so far as definitions, in specs/.
+// The prototype table, its refusals and the roles of words, after luad's roles.rs.
+pub mod calls;
+mod discovery;
+pub mod refusals;
+pub mod role;
+pub mod search;
+pub mod table;

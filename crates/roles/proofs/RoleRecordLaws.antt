@@ -1,0 +1,87 @@
+-- The records of roles as bytes: one role, some after others, and what is written where. Assumes nothing.
+use Prim.Native.Nat.{ℕ, _+_, _*_, _≤_, _<_}
+use native.Mathlib.Numerals.{add-one}
+use native.Mathlib.Omega.{arith}
+use mathlib.Core.Path.{_≡_, refl, sym, _∙_, ap, ap₂}
+use mathlib.Core.List.{List, [], _∷_, _++_, map, flatMap, map-append}
+use lib.ListN.{length, take, length-take}
+use lib.Seq.{take-all, take-nil}
+use Rattle.opcodes.specs.Lists.{tabulate}
+use Rattle.opcodes.specs.Bytes.{i32Bits, i32Record, u32Record, overwrite}
+use Rattle.roles.specs.Roles.{Role, Instruction, ClosureBinding, SetlistExtra, roleFields, roleBytes, recordsOf}
+use Rattle.roles.specs.Contracts.{ownerField, indexField, claimed}
+use Rattle.roles.specs.declared.discovery.Companions.{Companions}
+use Rattle.roles.specs.declared.discovery.Companions.the-variants.{None, Bindings, Extra}
+use Rattle.opcodes.proofs.ListLaws.{flatMap-append, length-flatMap, length-tabulate, tabulate-next, take-tabulate}
+use Rattle.opcodes.proofs.ByteLaws.{length-i32Record, u32Record-append, overwrite-none, overwrite-next}
+use Rattle.roles.proofs.RoleBufferLaws.{length-roleFields}
+
+-- a role's record has its two fields
+pub one-record : (r : Role) → recordsOf (r ∷ []) ≡ u32Record (ownerField r ∷ indexField r ∷ [])
+unfolding recordsOf i32Record flatMap roleFields ownerField indexField
+one-record Instruction = refl
+one-record (ClosureBinding owner index) = refl
+one-record (SetlistExtra owner) = refl
+
+pub length-records : (rs : List Role) → length (recordsOf rs) ≡ roleBytes * length rs
+unfolding recordsOf
+length-records rs = length-i32Record (flatMap roleFields rs) ∙ omega (arith, length-flatMap roleFields 2 length-roleFields rs)
+
+pub records-append : (rs ss : List Role) → recordsOf (rs ++ ss) ≡ recordsOf rs ++ recordsOf ss
+unfolding recordsOf i32Record
+records-append rs ss =
+    ap (λ l. u32Record (map i32Bits l)) (flatMap-append roleFields rs ss)
+    ∙ ap u32Record (map-append i32Bits (flatMap roleFields rs) (flatMap roleFields ss))
+    ∙ u32Record-append (map i32Bits (flatMap roleFields rs)) (map i32Bits (flatMap roleFields ss))
+
+pub records-none : (old : List ℕ) (at : ℕ) → old ≡ overwrite old at (recordsOf [])
+unfolding recordsOf i32Record u32Record flatMap
+records-none old at = sym (overwrite-none old at)
+
+-- a buffer with some roles, and more written after them
+pub records-next : (old m new : List ℕ) (at to : ℕ) (rs ss : List Role) → to ≡ at + roleBytes * length rs → at + roleBytes * (length rs + length ss) ≤ length old
+    → m ≡ overwrite old at (recordsOf rs) → new ≡ overwrite m to (recordsOf ss) → new ≡ overwrite old at (recordsOf (rs ++ ss))
+records-next old m new at to rs ss place room e d =
+    let size : to ≡ at + length (recordsOf rs) = omega (arith, length-records rs) in
+    d
+    ∙ ap₂ (λ (l : List ℕ) (n : ℕ). overwrite l n (recordsOf ss)) e size
+    ∙ overwrite-next old at (recordsOf rs) (recordsOf ss) (omega (arith, length-records rs, length-records ss))
+    ∙ ap (overwrite old at) (sym (records-append rs ss))
+
+-- ---- the companions of an owner, as far as they exist
+
+-- one binding word more
+pub binding-next : (old m new : List ℕ) (pc j : ℕ) → roleBytes * (pc + 1 + (j + 1)) ≤ length old → m ≡ overwrite old (roleBytes * (pc + 1)) (recordsOf (tabulate j (ClosureBinding pc)))
+    → new ≡ overwrite m (roleBytes * (pc + 1 + j)) (recordsOf (ClosureBinding pc j ∷ [])) → new ≡ overwrite old (roleBytes * (pc + 1)) (recordsOf (tabulate (j + 1) (ClosureBinding pc)))
+binding-next old m new pc j room e d =
+    let count = length-tabulate (ClosureBinding pc) j in
+    records-next old m new (roleBytes * (pc + 1)) (roleBytes * (pc + 1 + j)) (tabulate j (ClosureBinding pc)) (ClosureBinding pc j ∷ []) (omega arith) (omega arith) e d
+    ∙ ap (λ (rs : List Role). overwrite old (roleBytes * (pc + 1)) (recordsOf rs)) (sym (ap (λ (n : ℕ). tabulate n (ClosureBinding pc)) (add-one j) ∙ tabulate-next (ClosureBinding pc) j))
+
+-- so many were marked
+abbrev pub Marked : List ℕ → List ℕ → ℕ → ℕ → Companions → ℕ → Type 0
+Marked old new pc room cs n =
+    (n ≡ length (take room (claimed pc cs))) × ((new ≡ overwrite old (roleBytes * (pc + 1)) (recordsOf (take room (claimed pc cs)))) × (n ≤ room))
+
+module _ (old new : List ℕ) (pc room : ℕ) (cs : Companions) where
+  these : (rs : List Role) (n : ℕ) → take room (claimed pc cs) ≡ rs → n ≡ length rs → new ≡ overwrite old (roleBytes * (pc + 1)) (recordsOf rs) → Marked old new pc room cs n
+  these rs n e l d = (l ∙ ap length (sym e), (d ∙ ap (λ (x : List Role). overwrite old (roleBytes * (pc + 1)) (recordsOf x)) (sym e), omega (arith, ap length e, length-take room (claimed pc cs))))
+
+  pub marked-none : cs ≡ None → new ≡ old → Marked old new pc room cs 0
+  unfolding claimed
+  marked-none e d = these [] 0 (ap (λ (x : Companions). take room (claimed pc x)) e ∙ take-nil room) refl (d ∙ records-none old (roleBytes * (pc + 1)))
+
+  pub marked-few : (n r : ℕ) → cs ≡ Bindings n → n < room → r ≡ n → new ≡ overwrite old (roleBytes * (pc + 1)) (recordsOf (tabulate n (ClosureBinding pc))) → Marked old new pc room cs r
+  unfolding claimed
+  marked-few n r e h c d =
+      let f = ClosureBinding pc in
+      these (tabulate n f) r (ap (λ (x : Companions). take room (claimed pc x)) e ∙ take-all room (tabulate n f) (omega (arith, length-tabulate f n))) (c ∙ sym (length-tabulate f n)) d
+
+  pub marked-all : (n r : ℕ) → cs ≡ Bindings n → room ≤ n → r ≡ room → new ≡ overwrite old (roleBytes * (pc + 1)) (recordsOf (tabulate room (ClosureBinding pc))) → Marked old new pc room cs r
+  unfolding claimed
+  marked-all n r e h c d =
+      let f = ClosureBinding pc in
+      these (tabulate room f) r (ap (λ (x : Companions). take room (claimed pc x)) e ∙ take-tabulate f room n h) (c ∙ sym (length-tabulate f room)) d
+
+  pub marked-extra : (n : ℕ) → cs ≡ Extra → n ≡ length (take room (claimed pc Extra)) → new ≡ overwrite old (roleBytes * (pc + 1)) (recordsOf (take room (claimed pc Extra))) → Marked old new pc room cs n
+  marked-extra n e l d = these (take room (claimed pc Extra)) n (ap (λ (x : Companions). take room (claimed pc x)) e) l d

@@ -1,0 +1,212 @@
+-- The search for a child over the rows of a table, one at a time, and where it can be resumed. Assumes nothing.
+use Prim.Native.Nat.{ℕ, zero, suc, _+_, _-_, _/_, _≤_, _<_}
+use native.Mathlib.Nat.{not-suc-le-zero, le-of-suc-le-suc, zero-add, suc-add}
+use native.Mathlib.Numerals.{add-one}
+use native.Mathlib.Omega.{arith}
+use mathlib.Core.Path.{_≡_, refl, sym, _∙_, ap, subst⁻¹}
+use mathlib.Core.Bool.{Bool, true, false}
+use mathlib.Core.List.{List, [], _∷_}
+use mathlib.Core.Option.{Option, none, some}
+use lib.Dec.{eqb, ltb}
+use lib.ListN.{length, getD, drop, getElem?, length-drop, List·getD-eq-default}
+use borrow.Author.Tests.{ltb-true, ltb-false, eqb-true, eqb-false}
+use Rattle.opcodes.specs.Lists.{select, keepIf, takeWhile, goOnIf}
+use Rattle.roles.specs.Table.{Row, rowBytes, fieldAt, rowAt, rows, below, children, childAt}
+use Rattle.roles.specs.Contracts.{childOf, childOfRow, Resumes, protoIn}
+use Rattle.roles.specs.declared.table.Child.{Child}
+use Rattle.roles.specs.declared.table.Child.the-variants as child
+use Rattle.roles.specs.declared.search.Cursor.{Cursor}
+use Rattle.roles.proofs.TableLaws.{length-rows, drop-rows, child-end, child-found, child-next, child-deeper, child-upvalues, child-missing}
+
+-- ---- one row more
+
+-- there are no more children than rows
+length-takeWhile : {A : Type 0} (f : A → Bool) (xs : List A) → length (takeWhile f xs) ≤ length xs
+length-takeWhile f [] = omega arith
+length-takeWhile f (x ∷ xs) = go (f x) (length-takeWhile f xs)
+  where
+    go : (b : Bool) → length (takeWhile f xs) ≤ length xs → length (goOnIf b x (takeWhile f xs)) ≤ suc (length xs)
+    go true h = omega arith
+    go false h = omega arith
+
+length-select : {A : Type 0} (f : A → Bool) (xs : List A) → length (select f xs) ≤ length xs
+length-select f [] = omega arith
+length-select f (x ∷ xs) = go (f x) (length-select f xs)
+  where
+    go : (b : Bool) → length (select f xs) ≤ length xs → length (keepIf b x (select f xs)) ≤ suc (length xs)
+    go true h = omega arith
+    go false h = omega arith
+
+element-past-end : {A : Type 0} (xs : List A) (k : ℕ) → length xs ≤ k → getElem? xs k ≡ none
+element-past-end [] k h = refl
+element-past-end (x ∷ xs) zero h = absurd (not-suc-le-zero h)
+element-past-end (x ∷ xs) (suc k) h = element-past-end xs k (le-of-suc-le-suc h)
+
+child-few : (d : ℕ) (later : List Row) (k : ℕ) → length later ≤ k → childAt d later k ≡ none
+unfolding childAt children below
+child-few d later k h =
+    let f : Row → Bool = λ r. eqb (r .depth) (suc d) in
+    let g : Row → Bool = λ r. ltb d (r .depth) in
+    element-past-end (children d later) k (omega (arith, length-select f (takeWhile g later), length-takeWhile g later))
+
+-- the rows left are no more than k
+too-few : (table : List ℕ) (at d k : ℕ) → length table / rowBytes ≤ at + k → childAt d (drop at (rows table)) k ≡ none
+too-few table at d k h = child-few d (drop at (rows table)) k (omega (arith, length-drop at (rows table), length-rows table))
+
+module _ (table : List ℕ) (at d : ℕ) (there : at < length table / rowBytes) where
+  from : (k : ℕ) (o : Option Row) → childAt d (rowAt table at ∷ drop (suc at) (rows table)) k ≡ o → childAt d (drop at (rows table)) k ≡ o
+  from k o e = ap (λ (rs : List Row). childAt d rs k) (drop-rows table at there) ∙ e
+
+  row-end : (k : ℕ) → rowAt table at .depth ≤ d → childAt d (drop at (rows table)) k ≡ none
+  row-end k h = from k none (child-end d (rowAt table at) _ k h)
+
+  row-found : rowAt table at .depth ≡ suc d → childAt d (drop at (rows table)) 0 ≡ some (rowAt table at)
+  row-found h = from 0 _ (child-found d (rowAt table at) _ h)
+
+  row-next : (k : ℕ) → rowAt table at .depth ≡ suc d → childAt d (drop at (rows table)) (suc k) ≡ childAt d (drop (suc at) (rows table)) k
+  row-next k h = from (suc k) _ (child-next d (rowAt table at) _ k h)
+
+  row-deeper : (k : ℕ) → suc d < rowAt table at .depth → childAt d (drop at (rows table)) k ≡ childAt d (drop (suc at) (rows table)) k
+  row-deeper k h = from k _ (child-deeper d (rowAt table at) _ k h)
+
+-- ---- the same as the code has it
+
+abbrev search : List ℕ → ℕ → ℕ → ℕ → Child
+search table at d k = childOf (childAt d (drop at (rows table)) k)
+
+pub find-few : (table : List ℕ) (at d k : ℕ) → length table / rowBytes - at ≤ k → child.Missing ≡ search table at d k
+unfolding childOf
+find-few table at d k h = sym (ap childOf (too-few table at d k (omega arith)))
+
+pub find-none : (table : List ℕ) (at d k : ℕ) → length table / rowBytes ≤ at → child.Missing ≡ search table at d k
+find-none table at d k h = find-few table at d k (omega arith)
+
+module _ (table : List ℕ) (at d k x : ℕ) (there : at < length table / rowBytes) (depth : x ≡ fieldAt table at 0) where
+  here : rowAt table at .depth ≡ x
+  unfolding rowAt
+  here = sym depth
+
+  pub find-end : x ≤ d → child.Missing ≡ search table at d k
+  unfolding childOf
+  find-end h = sym (ap childOf (row-end table at d there k (omega (arith, here))))
+
+  pub find-found : x ≡ suc d → k ≡ 0 → child.Row at ≡ search table at d k
+  unfolding childOf rowAt
+  find-found h e = sym (ap (search table at d) e ∙ ap childOf (row-found table at d there (here ∙ h)))
+
+  pub find-next : x ≡ suc d → (k ≡ 0 → ⊥) → search table (at + 1) d (k - 1) ≡ search table at d k
+  find-next h f =
+      let e : k ≡ suc (k - 1) = omega arith in
+      ap (λ (n : ℕ). search table n d (k - 1)) (add-one at)
+      ∙ sym (ap (search table at d) e ∙ ap childOf (row-next table at d there (k - 1) (here ∙ h)))
+
+  pub find-deeper : suc d < x → search table (at + 1) d k ≡ search table at d k
+  find-deeper h = ap (λ (n : ℕ). search table n d k) (add-one at) ∙ sym (ap childOf (row-deeper table at d there k (omega (arith, here))))
+
+-- ---- a child that was found
+
+pub record Found (table : List ℕ) (d at k : ℕ) (c : Row) : Type 0 where
+  pub there : c .row < length table / rowBytes
+  pub same : c ≡ rowAt table (c .row)
+  pub resumes : (j : ℕ) → childAt d (drop at (rows table)) (k + j) ≡ childAt d (drop (c .row) (rows table)) j
+
+-- by the number of rows left
+found : (n : ℕ) (table : List ℕ) (d at k : ℕ) (c : Row) → length table / rowBytes ≤ n + at → childAt d (drop at (rows table)) k ≡ some c → Found table d at k c
+unfolding rowAt
+found zero table d at k c h e =
+    let z : _≡_ {A = ℕ} 0 1 = let none : childAt d (drop at (rows table)) k ≡ none = too-few table at d k (omega arith) in cc in
+    absurd (omega arith)
+found (suc n) table d at k c h e = by-row (ltb at (length table / rowBytes)) (ltb (rowAt table at .depth) (suc d)) (eqb (rowAt table at .depth) (suc d)) k refl refl refl e (λ j f. found n table d (suc at) j c (omega arith) f)
+  where
+    by-row : (b less same : Bool) (k : ℕ) → ltb at (length table / rowBytes) ≡ b → ltb (rowAt table at .depth) (suc d) ≡ less → eqb (rowAt table at .depth) (suc d) ≡ same
+        → childAt d (drop at (rows table)) k ≡ some c → ((j : ℕ) → childAt d (drop (suc at) (rows table)) j ≡ some c → Found table d (suc at) j c) → Found table d at k c
+    by-row false less same k t l s e rest =
+        let gone : childAt d (drop at (rows table)) k ≡ none = too-few table at d k (omega (arith, ltb-false at (length table / rowBytes) t)) in
+        let z : _≡_ {A = ℕ} 0 1 = cc in
+        absurd (omega arith)
+    by-row true true same k t l s e rest =
+        let gone : childAt d (drop at (rows table)) k ≡ none = row-end table at d (ltb-true at _ t) k (omega (arith, ltb-true (rowAt table at .depth) (suc d) l)) in
+        let z : _≡_ {A = ℕ} 0 1 = cc in
+        absurd (omega arith)
+    by-row true false true zero t l s e rest =
+        let there = ltb-true at _ t in
+        let first : some (rowAt table at) ≡ some c = sym (row-found table at d there (eqb-true _ _ s)) ∙ e in
+        let same : rowAt table at ≡ c = cc in
+        let number : at ≡ c .row = ap (λ (r : Row). r .row) same in
+        record {
+          there = omega arith;
+          same = sym same ∙ ap (rowAt table) number;
+          resumes = λ j. ap (λ (i : ℕ). childAt d (drop at (rows table)) i) (zero-add j) ∙ ap (λ (i : ℕ). childAt d (drop i (rows table)) j) number;
+        }
+    by-row true false true (suc k) t l s e rest =
+        let there = ltb-true at _ t in
+        let deep = eqb-true (rowAt table at .depth) (suc d) s in
+        let later = rest k (sym (row-next table at d there k deep) ∙ e) in
+        record {
+          there = later .there;
+          same = later .same;
+          resumes = λ j. ap (λ (i : ℕ). childAt d (drop at (rows table)) i) (suc-add k j) ∙ row-next table at d there (k + j) deep ∙ later .resumes j;
+        }
+    by-row true false false k t l s e rest =
+        let there = ltb-true at _ t in
+        let deep : suc d < rowAt table at .depth = omega (arith, ltb-false (rowAt table at .depth) (suc d) l, eqb-false (rowAt table at .depth) (suc d) s) in
+        let later = rest k (sym (row-deeper table at d there k deep) ∙ e) in
+        record {
+          there = later .there;
+          same = later .same;
+          resumes = λ j. row-deeper table at d there (k + j) deep ∙ later .resumes j;
+        }
+
+-- ---- the children of the prototype in a row
+
+module _ (table : List ℕ) (parent : ℕ) where
+  -- what is known of child k: where it stands, how many upvalues it has, and that the search can be resumed there
+  pub record FoundChild (k r : ℕ) : Type 0 where
+    pub there : r < length table / rowBytes
+    pub upvalues : getD (protoIn table parent [] .children) k 0 ≡ fieldAt table r 3
+    pub resumes : Resumes table parent (record { index = k; row = r })
+
+  pub found-child : (k r : ℕ) → child.Row r ≡ childOf (childOfRow table parent k) → FoundChild k r
+  unfolding childOf childOfRow protoIn rowAt
+  found-child k r e = go (childOfRow table parent k) refl e
+    where
+      go : (o : Option Row) → childOfRow table parent k ≡ o → child.Row r ≡ childOf o → FoundChild k r
+      go none f e = let z : _≡_ {A = ℕ} 0 1 = cc in absurd (omega arith)
+      go (some c) f e =
+          let number : c .row ≡ r = cc in
+          let v = found (length table / rowBytes) table (rowAt table parent .depth) (suc parent) k c (omega arith) f in
+          record {
+            there = omega (arith, v .there);
+            upvalues = child-upvalues (rowAt table parent) (drop (suc parent) (rows table)) [] k c f ∙ ap (λ (x : Row). x .upvalues) (v .same) ∙ ap (λ (n : ℕ). fieldAt table n 3) number;
+            resumes = record { resumes = λ j. v .resumes j ∙ ap (λ (n : ℕ). childAt (rowAt table parent .depth) (drop n (rows table)) j) number };
+          }
+
+  pub missing-child : (k : ℕ) → child.Missing ≡ childOf (childOfRow table parent k) → getD (protoIn table parent [] .children) k 0 ≡ 0
+  unfolding childOf childOfRow protoIn
+  missing-child k e = go (childOfRow table parent k) refl e
+    where
+      go : (o : Option Row) → childOfRow table parent k ≡ o → child.Missing ≡ childOf o → getD (protoIn table parent [] .children) k 0 ≡ 0
+      go none f e = List·getD-eq-default (protoIn table parent [] .children) 0 (child-missing (rowAt table parent) (drop (suc parent) (rows table)) [] k f)
+      go (some c) f e = let z : _≡_ {A = ℕ} 0 1 = cc in absurd (omega arith)
+
+  -- the search begins right after the row
+  pub begins : Resumes table parent (record { index = 0; row = parent + 1 })
+  unfolding childOfRow
+  begins = record { resumes = λ k. rw (zero-add, add-one) }
+
+  -- the same cursor
+  pub unmoved : (u v : Cursor) → v ≡ u → Resumes table parent u → Resumes table parent v
+  unmoved u v e h = subst⁻¹ (Resumes table parent) e h
+
+  -- it begins anew, or is resumed
+  pub anew : (k d : ℕ) (c : Child) → d ≡ fieldAt table parent 0 → c ≡ search table (parent + 1) d k → c ≡ childOf (childOfRow table parent k)
+  unfolding childOfRow rowAt
+  anew k d c e f = f ∙ rw (e, add-one)
+
+  pub resumed : (u : Cursor) (k d : ℕ) (c : Child) → Resumes table parent u → u .index ≤ k → d ≡ fieldAt table parent 0 → c ≡ search table (u .row) d (k - u .index) → c ≡ childOf (childOfRow table parent k)
+  unfolding rowAt
+  resumed u k d c v h e f =
+      let whole : u .index + (k - u .index) ≡ k = omega arith in
+      f
+      ∙ ap (λ (n : ℕ). search table (u .row) n (k - u .index)) e
+      ∙ sym (ap childOf (ap (childOfRow table parent) (sym whole) ∙ v .resumes (k - u .index)))

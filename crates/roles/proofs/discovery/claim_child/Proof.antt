@@ -1,0 +1,35 @@
+-- `discovery::claim_child` meets its contract. Assumes nothing.
+use native.Mathlib.Omega.{arith}
+use mathlib.Core.Path.{sym, _∙_, ap}
+use borrow.Author.Needs.{needs}
+use Rattle.roles.specs.Contracts.{bindingsOf}
+use Rattle.roles.specs.declared.discovery.Companions.the-variants.{Bindings}
+use Rattle.roles.proofs.SearchLaws.{found-child, missing-child}
+use Rattle.roles.proofs.discovery.claim_child.Statement.{statement}
+use Rattle.roles.proofs.discovery.claim_child.Tie as tie
+
+field-requires : tie.Need-field-requires
+field-requires c κs =
+    let f = found-child _ _ _ _ (sym (c .before .child .given .1) ∙ c .before .before .before .find .ensures) in
+    (omega (arith, f .there), omega arith)
+
+missing : tie.Need-returns
+unfolding bindingsOf
+missing c = (ap Bindings (sym (missing-child _ _ _ (sym (c .enum-told .given .1) ∙ c .before .before .find .ensures))), c .before .before .before .before .pre .1)
+
+found : tie.Need-returns-2
+unfolding bindingsOf
+found c =
+    let f = found-child _ _ _ _ (sym (c .before .before .child .given .1) ∙ c .before .before .before .before .find .ensures) in
+    (ap Bindings (c .field .ensures ∙ sym (f .upvalues)), f .resumes)
+
+pub claim-child-spec : {M : Type 1} → statement M
+claim-child-spec =
+    tie.close
+    (tie.spec
+    (λ c κs. (c .before .pre .0, c .before .pre .1))
+    (λ c. search needs)
+    (λ c. search needs)
+    field-requires
+    missing
+    found)

@@ -1,0 +1,110 @@
+-- What the code's own types stand for: the terms in which its contracts cite the other definitions. Assumes nothing: these are definitions.
+use Prim.Native.Nat.{ℕ, suc, _+_, _*_, _/_}
+use mathlib.Core.Path.{_≡_}
+use mathlib.Core.Bool.{cond}
+use mathlib.Core.List.{List, [], _∷_}
+use mathlib.Core.Option.{Option, none, some}
+use lib.Dec.{eqb, ltb}
+use lib.ListN.{length, getD, drop}
+use lib.IntN.{pos}
+use Rattle.opcodes.specs.Bytes.{u32At, i32Bits}
+use Rattle.opcodes.specs.Lists.{tabulate}
+use Rattle.opcodes.specs.Words.{is, fieldBx, CLOSURE}
+use Rattle.roles.specs.Table.{Row, rowAt, rows, children, childAt, Proto, protoOf}
+use Rattle.roles.specs.Roles.{Role, Instruction, ClosureBinding, SetlistExtra, hasExtra, roleFields, roleBytes}
+use Rattle.roles.specs.Refusals.{Refused}
+use Rattle.roles.specs.Calls.{Answer, refused, accepted}
+use Rattle.roles.specs.declared.refusals.Refusal.{Refusal}
+use Rattle.roles.specs.declared.refusals.Refusal.the-variants as refusal
+use Rattle.roles.specs.declared.refusals.Acceptance.{Acceptance}
+use Rattle.roles.specs.declared.refusals.Acceptance.the-variants as acceptance
+use Rattle.roles.specs.declared.calls.Answer.{Answer as Answered}
+use Rattle.roles.specs.declared.calls.Answer.the-variants as answered
+use Rattle.roles.specs.declared.table.Child.{Child}
+use Rattle.roles.specs.declared.table.Child.the-variants as child
+use Rattle.roles.specs.declared.search.Cursor.{Cursor}
+use Rattle.roles.specs.declared.discovery.Companions.{Companions}
+use Rattle.roles.specs.declared.discovery.Companions.the-variants.{None, Bindings, Extra}
+use Rattle.roles.specs.declared.role.Lua51PhysicalRole.{Lua51PhysicalRole}
+use Rattle.roles.specs.declared.role.Lua51PhysicalRole.the-variants as physical
+
+-- ---- refusals and answers
+
+-- the number and the figure of each refusal
+unfoldable pub refusedOf : Refusal → Refused
+refusedOf refusal.NoProtos = record { number = 1; figure = 0 }
+refusedOf refusal.PartialRow = record { number = 2; figure = 0 }
+refusedOf refusal.TooLarge = record { number = 3; figure = 0 }
+refusedOf (refusal.BadDepth row) = record { number = 4; figure = row }
+refusedOf (refusal.FieldOverLimit row) = record { number = 5; figure = row }
+refusedOf refusal.WordCountMismatch = record { number = 6; figure = 0 }
+refusedOf refusal.RoleBufferTooShort = record { number = 7; figure = 0 }
+
+-- whether an image is refused
+unfoldable pub refusalOf : Acceptance → Option Refused
+refusalOf (acceptance.Refused r) = some (refusedOf r)
+refusalOf acceptance.Accepted = none
+
+-- a call's answer
+unfoldable pub answerOf : Answered → Answer ℕ
+answerOf (answered.Refused r) = refused (refusedOf r)
+answerOf (answered.Records n) = accepted n
+
+-- ---- children
+
+-- the row in which a child was found
+unfoldable pub childOf : Option Row → Child
+childOf none = child.Missing
+childOf (some r) = child.Row (r .row)
+
+-- child k of the prototype in row `parent`
+unfoldable pub childOfRow : List ℕ → ℕ → ℕ → Option Row
+childOfRow table parent k = childAt (rowAt table parent .depth) (drop (suc parent) (rows table)) k
+
+-- from the cursor's row on, its children are counted from the cursor's index
+pub record Resumes (table : List ℕ) (parent : ℕ) (c : Cursor) : Type 0 where
+  pub resumes : (k : ℕ) → childOfRow table parent (c .index + k) ≡ childAt (rowAt table parent .depth) (drop (c .row) (rows table)) k
+
+-- ---- companions
+
+-- the prototype of row i, from the words from its first on
+unfoldable pub protoIn : List ℕ → ℕ → List ℕ → Proto
+protoIn table i words = protoOf (rowAt table i) (drop (suc i) (rows table)) words
+
+-- a CLOSURE's companions, by the child that it names
+unfoldable pub bindingsOf : List ℕ → ℕ → ℕ → Companions
+bindingsOf table row k = Bindings (getD (protoIn table row [] .children) k 0)
+
+-- a word's
+unfoldable pub companionsOf : List ℕ → ℕ → ℕ → Companions
+companionsOf table row w = cond (is w (CLOSURE ∷ [])) (bindingsOf table row (fieldBx w)) (cond (hasExtra w) Extra None)
+
+-- the roles that they take
+unfoldable pub claimed : ℕ → Companions → List Role
+claimed pc None = []
+claimed pc (Bindings n) = tabulate n (ClosureBinding pc)
+claimed pc Extra = SetlistExtra pc ∷ []
+
+-- ---- the records of a role buffer
+
+-- a role
+abbrev pub roleOf : Lua51PhysicalRole → Role
+roleOf physical.Instruction = Instruction
+roleOf (physical.ClosureBinding owner index) = ClosureBinding owner index
+roleOf (physical.SetlistExtra owner) = SetlistExtra owner
+
+-- the bits of its fields
+unfoldable pub ownerField : Role → ℕ
+ownerField r = i32Bits (getD (roleFields r) 0 (pos 0))
+
+unfoldable pub indexField : Role → ℕ
+indexField r = i32Bits (getD (roleFields r) 1 (pos 0))
+
+-- the role whose fields have these bits
+unfoldable pub roleFrom : ℕ → ℕ → Role
+roleFrom owner index = cond (eqb owner 0xffff_ffff) Instruction (cond (eqb index 0xffff_ffff) (SetlistExtra owner) (ClosureBinding owner index))
+
+-- the role of the word at pc, from the records of its prototype. A pc past them counts as executable
+unfoldable pub roleIn : List ℕ → ℕ → Role
+roleIn records pc =
+    cond (ltb pc (length records / roleBytes)) (roleFrom (u32At records (roleBytes * pc)) (u32At records (roleBytes * pc + 4))) Instruction

@@ -1,0 +1,173 @@
+// The roles of a prototype's words, front to back, after luad's `discover_roles_lua51`.
+use crate::role::Lua51PhysicalRole;
+use crate::role::write_role;
+use crate::search::Cursor;
+use crate::table::Child;
+use crate::table::UPVALUES;
+use crate::table::field;
+use opcodes::Opcode51;
+use opcodes::OpcodeField;
+use opcodes::RawInstruction51;
+use opcodes::bytes::read_u32;
+ghost use mathlib.Core.Bool.{cond};
+ghost use mathlib.Core.Path.{_≡_};
+ghost use lib.Dec.{eqb};
+ghost use Prim.Native.Nat.{_+_, _*_, _/_, _<_, _≤_};
+ghost use lib.ListN.{length, take};
+ghost use Rattle.opcodes.specs.Bytes.{overwrite, u32s};
+ghost use Rattle.opcodes.specs.Lists.{tabulate};
+ghost use Rattle.roles.specs.Contracts.{Resumes, bindingsOf, claimed, companionsOf, protoIn};
+ghost use Rattle.roles.specs.declared.discovery.Companions.the-variants.{Extra, None};
+ghost use Rattle.roles.specs.Roles.{ClosureBinding, recordsOf, roleBytes, roles};
+ghost use Rattle.roles.specs.Table.{rowAt, rowBytes};
+
+// The words that an executable word owns: none, those that bind a child's upvalues, or a SETLIST's extra word.
+pub enum Companions {
+    None,
+    Bindings(u32),
+    Extra,
+}
+
+// What an executable word owns, and the cursor after the search for its child.
+pub struct Claim {
+    pub cursor: Cursor,
+    pub companions: Companions,
+}
+
+// Writes the roles of a row's words to the front of its part of the buffer. Each word is looked at once: an owner marks its companions, as
+// far as they exist, and the next word to be looked at is the one after them.
+pub fn discover_proto(protos: &[u8], row: usize, code: &[u8], out: &mut [u8])
+    requires { ⌜ rowBytes * row + rowBytes ≤ length (now protos) ⌝ }
+    requires { ⌜ rowAt (now protos) row .words ≡ length (now code) / 4 ⌝ }
+    requires { ⌜ (length (now code) ≤ 4194304) × (2 * length (now code) ≤ length (now out)) ⌝ }
+    ensures { λ _. ⌜ now (out .exit) ≡ overwrite (now (out .entry)) 0 (recordsOf (roles (protoIn (now (protos .entry)) row (u32s (now (code .entry)))))) ⌝ }
+{
+    let n = code.len() / 4;
+    let mut cursor = Cursor {
+        index: 0,
+        row: row + 1,
+    };
+    let mut pc = 0;
+    while pc < n {
+        let claim = claim_of(protos, row, cursor, read_u32(code, 4 * pc));
+        cursor = claim.cursor;
+        write_role(out, pc, Lua51PhysicalRole::Instruction);
+        let companions = claim.companions;
+        pc += 1 + mark(out, pc, n - pc - 1, companions);
+    }
+}
+
+// What an executable word of the row owns.
+fn claim_of(protos: &[u8], row: usize, cursor: Cursor, word: u32) -> Claim
+    requires { ⌜ rowBytes * row + rowBytes ≤ length (now protos) ⌝ }
+    requires { ⌜ Resumes (now protos) row cursor ⌝ }
+    ensures { λ r. ⌜ r .companions ≡ companionsOf (now (protos .entry)) row word ⌝ }
+    ensures { λ r. ⌜ Resumes (now (protos .entry)) row (r .cursor) ⌝ }
+{
+    let w = RawInstruction51::decode(word);
+    let opcode = w.opcode;
+    let OpcodeField::Known(op) = opcode else {
+        return Claim {
+            cursor,
+            companions: Companions::None,
+        };
+    };
+    match op {
+        Opcode51::Closure => claim_child(protos, row, cursor, w.bx),
+        Opcode51::SetList => claim_extra(cursor, w.c),
+        _ => Claim {
+            cursor,
+            companions: Companions::None,
+        },
+    }
+}
+
+// A CLOSURE that names child k owns a word for each of its upvalues, where there is such a child.
+fn claim_child(protos: &[u8], row: usize, cursor: Cursor, k: u32) -> Claim
+    requires { ⌜ rowBytes * row + rowBytes ≤ length (now protos) ⌝ }
+    requires { ⌜ Resumes (now protos) row cursor ⌝ }
+    ensures { λ r. ⌜ r .companions ≡ bindingsOf (now (protos .entry)) row k ⌝ }
+    ensures { λ r. ⌜ Resumes (now (protos .entry)) row (r .cursor) ⌝ }
+{
+    match cursor.find(protos, row, k) {
+        Child::Missing => Claim {
+            cursor,
+            companions: Companions::Bindings(0),
+        },
+        Child::Row(child) => Claim {
+            cursor: Cursor {
+                index: k,
+                row: child,
+            },
+            companions: Companions::Bindings(field(protos, child, UPVALUES)),
+        },
+    }
+}
+
+// A SETLIST owns a word where its C is 0.
+fn claim_extra(cursor: Cursor, c: u16) -> Claim
+    ensures { λ r. ⌜ (r .companions ≡ cond (eqb c 0) Extra None) × (r .cursor ≡ cursor) ⌝ }
+{
+    if c == 0 {
+        Claim {
+            cursor,
+            companions: Companions::Extra,
+        }
+    } else {
+        Claim {
+            cursor,
+            companions: Companions::None,
+        }
+    }
+}
+
+// Marks the companions of the owner at pc, of which at most `room` exist. Answers how many.
+fn mark(out: &mut [u8], pc: usize, room: usize, companions: Companions) -> usize
+    requires { ⌜ (pc + room < 1048576) × (roleBytes * (pc + 1 + room) ≤ length (now out)) ⌝ }
+    ensures { λ r. ⌜ r ≡ length (take room (claimed pc companions)) ⌝ }
+    ensures { λ _. ⌜ now (out .exit) ≡ overwrite (now (out .entry)) (roleBytes * (pc + 1)) (recordsOf (take room (claimed pc companions))) ⌝ }
+    ensures { λ r. ⌜ r ≤ room ⌝ }
+{
+    match companions {
+        Companions::None => 0,
+        Companions::Bindings(n) => {
+            if (n as usize) < room {
+                mark_bindings(out, pc, n as usize)
+            } else {
+                mark_bindings(out, pc, room)
+            }
+        }
+        Companions::Extra => mark_extra(out, pc, room),
+    }
+}
+
+// Marks so many binding words of the CLOSURE at pc.
+fn mark_bindings(out: &mut [u8], pc: usize, count: usize) -> usize
+    requires { ⌜ (pc + count < 1048576) × (roleBytes * (pc + 1 + count) ≤ length (now out)) ⌝ }
+    ensures { λ r. ⌜ r ≡ count ⌝ }
+    ensures { λ _. ⌜ now (out .exit) ≡ overwrite (now (out .entry)) (roleBytes * (pc + 1)) (recordsOf (tabulate count (ClosureBinding pc))) ⌝ }
+{
+    let mut j = 0;
+    while j < count {
+        write_role(
+            out,
+            pc + 1 + j,
+            Lua51PhysicalRole::ClosureBinding(pc as u32, j as u32),
+        );
+        j += 1;
+    }
+    count
+}
+
+// Marks the extra word of the SETLIST at pc, where it exists.
+fn mark_extra(out: &mut [u8], pc: usize, room: usize) -> usize
+    requires { ⌜ (pc + room < 1048576) × (roleBytes * (pc + 1 + room) ≤ length (now out)) ⌝ }
+    ensures { λ r. ⌜ r ≡ length (take room (claimed pc Extra)) ⌝ }
+    ensures { λ _. ⌜ now (out .exit) ≡ overwrite (now (out .entry)) (roleBytes * (pc + 1)) (recordsOf (take room (claimed pc Extra))) ⌝ }
+{
+    if room == 0 {
+        return 0;
+    }
+    write_role(out, pc + 1, Lua51PhysicalRole::SetlistExtra(pc as u32));
+    1
+}

@@ -1,0 +1,31 @@
+// The search for the children of a prototype. It is resumed at the child last found, so that rising numbers cost one pass over the rows.
+use crate::table::Child;
+use crate::table::DEPTH;
+use crate::table::field;
+use crate::table::find_child;
+ghost use mathlib.Core.Path.{_≡_};
+ghost use Prim.Native.Nat.{_+_, _*_, _≤_};
+ghost use lib.ListN.{length};
+ghost use Rattle.roles.specs.Contracts.{Resumes, childOf, childOfRow};
+ghost use Rattle.roles.specs.Table.{rowBytes};
+
+// Child `index` of the prototype is child 0 of those from row `row` on.
+pub struct Cursor {
+    pub index: u32,
+    pub row: usize,
+}
+
+impl Cursor {
+    // Child k of the prototype in row `parent`.
+    pub fn find(self, protos: &[u8], parent: usize, k: u32) -> Child
+        requires { ⌜ rowBytes * parent + rowBytes ≤ length (now protos) ⌝ }
+        requires { ⌜ Resumes (now protos) parent self ⌝ }
+        ensures { λ r. ⌜ r ≡ childOf (childOfRow (now (protos .entry)) parent k) ⌝ }
+    {
+        let depth = field(protos, parent, DEPTH);
+        if k < self.index {
+            return find_child(protos, parent + 1, depth, k);
+        }
+        find_child(protos, self.row, depth, k - self.index)
+    }
+}

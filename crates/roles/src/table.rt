@@ -1,0 +1,59 @@
+// The prototype table: rows of five u32, in preorder.
+use opcodes::bytes::read_u32;
+ghost use mathlib.Core.Path.{_≡_};
+ghost use Prim.Native.Nat.{_+_, _*_, _<_, _≤_};
+ghost use lib.ListN.{drop, length};
+ghost use Rattle.roles.specs.Contracts.{childOf};
+ghost use Rattle.roles.specs.Table.{childAt, fieldAt, rowBytes, rowFields, rows};
+
+// The length of a row in bytes.
+pub const ROW_BYTES: usize = 20;
+
+// The fields of a row, in their order.
+pub const DEPTH: usize = 0;
+
+pub const WORDS: usize = 1;
+
+pub const CONSTANTS: usize = 2;
+
+pub const UPVALUES: usize = 3;
+
+pub const STACK: usize = 4;
+
+// The row of a child, or that there is none.
+pub enum Child {
+    Row(usize),
+    Missing,
+}
+
+// Field k of a row.
+pub fn field(protos: &[u8], row: usize, k: usize) -> u32
+    requires { ⌜ (rowBytes * row + rowBytes ≤ length (now protos)) × (k < rowFields) ⌝ }
+    ensures { λ r. ⌜ r ≡ fieldAt (now (protos .entry)) row k ⌝ }
+{
+    read_u32(protos, ROW_BYTES * row + 4 * k)
+}
+
+// Child k of a row of this depth, among the rows from `at` on. The rows left fall with each call.
+pub fn find_child(protos: &[u8], at: usize, depth: u32, k: u32) -> Child
+    ensures { λ r. ⌜ r ≡ childOf (childAt depth (drop at (rows (now (protos .entry)))) k) ⌝ }
+{
+    let rows = protos.len() / ROW_BYTES;
+    if rows <= at {
+        return Child::Missing;
+    }
+    if rows - at <= k as usize {
+        return Child::Missing;
+    }
+    let d = field(protos, at, DEPTH);
+    if d <= depth {
+        return Child::Missing;
+    }
+    if d - depth == 1 {
+        if k == 0 {
+            return Child::Row(at);
+        }
+        return find_child(protos, at + 1, depth, k - 1);
+    }
+    find_child(protos, at + 1, depth, k)
+}

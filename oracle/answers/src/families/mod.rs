@@ -1,4 +1,5 @@
 //! Images by families: the fixed list, in a small and a large half, and the short codes.
+mod bits_of_fields;
 mod boundaries;
 mod closures;
 mod large;
@@ -38,6 +39,7 @@ pub fn small(seed: u64, visit: &mut dyn FnMut(&Image, &Calls)) {
     refused::add(&mut list);
     valid::add(&mut list);
     random::add(&mut list);
+    bits_of_fields::add(&mut list);
 }
 
 /// Hands on every short code; these are not in the fixed list.

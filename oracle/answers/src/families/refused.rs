@@ -18,7 +18,7 @@ pub fn base() -> Image {
 }
 
 /// Sets a field of a row; where the table is too short, nothing.
-fn set(image: &mut Image, row: usize, field: usize, value: u32) {
+pub fn set(image: &mut Image, row: usize, field: usize, value: u32) {
     let at = 20 * row + 4 * field;
     if let Some(bytes) = image.protos.get_mut(at..at + 4) {
         bytes.copy_from_slice(&value.to_le_bytes());

@@ -1,6 +1,14 @@
-//! Links the archives that `rt staticlib` wrote.
+//! Links the archives that `rt staticlib` wrote. Without that of luad51 all is built but `bench roles`.
+use std::path::Path;
+
 fn main() {
     let here = std::env::var("CARGO_MANIFEST_DIR").unwrap();
-    println!("cargo:rustc-link-search=native={here}/../target/staticlib");
-    println!("cargo:rerun-if-changed={here}/../target/staticlib/libwords_digest.a");
+    let archives = format!("{here}/../target/staticlib");
+    println!("cargo:rustc-link-search=native={archives}");
+    println!("cargo:rerun-if-changed={archives}/libwords_digest.a");
+    println!("cargo:rerun-if-changed={archives}/libluad51.a");
+    println!("cargo:rustc-check-cfg=cfg(luad51)");
+    if Path::new(&format!("{archives}/libluad51.a")).exists() {
+        println!("cargo:rustc-cfg=luad51");
+    }
 }

@@ -1,0 +1,85 @@
+/* Roles of Lua 5.1 instruction words: the C interface of libluad51.a.
+ *
+ * An image is two byte slices. All numbers in slices and buffers have their least byte first; no alignment is needed.
+ *   prototype table  a row a prototype, in preorder, of LUAD51_ROW_BYTES: five u32
+ *                      depth      0 in row 0; later from 1 to the depth of the row before plus 1
+ *                      words      number of the prototype's instruction words
+ *                      constants  at most 2147483647
+ *                      upvalues   at most 255
+ *                      stack      at most 255
+ *   words            the words of all prototypes end to end, in row order, LUAD51_WORD_BYTES each: one u32
+ * Child k of a row, from 0, is the k-th later row that is one deeper, before any row of its own depth or less. A word's
+ * pc is its index in its prototype, from 0.
+ *
+ * Slices and buffers may have any content and any length. They must not overlap. A pointer must not be null: for an
+ * empty slice or buffer pass any valid pointer with length 0.
+ * Nothing is allocated, nothing is kept after a call, and there is no global state: any number of threads may call at
+ * the same time, each with a role buffer of its own.
+ * STACK: TO BE MEASURED
+ */
+#ifndef LUAD51_H
+#define LUAD51_H
+
+#include <stddef.h>
+#include <stdint.h>
+
+#ifdef __cplusplus
+extern "C" {
+#endif
+
+/* Limits of an image. */
+#define LUAD51_MAX_ROWS 16384
+#define LUAD51_MAX_WORDS 1048576
+#define LUAD51_MAX_DEPTH 199
+
+/* Sizes in bytes. */
+#define LUAD51_ROW_BYTES 20
+#define LUAD51_WORD_BYTES 4
+#define LUAD51_ROLE_BYTES 8
+
+/* Why a call was refused: the least number whose condition holds. */
+enum luad51_refusal_number {
+    LUAD51_ACCEPTED = 0,              /* none of the conditions below holds */
+    LUAD51_NO_PROTOS = 1,             /* the prototype table is empty */
+    LUAD51_PARTIAL_ROW = 2,           /* the table's length is not a multiple of LUAD51_ROW_BYTES */
+    LUAD51_TOO_LARGE = 3,             /* above LUAD51_MAX_ROWS rows, or above 4 * LUAD51_MAX_WORDS bytes of words */
+    LUAD51_BAD_DEPTH = 4,             /* a row's depth breaks the rule above or is above LUAD51_MAX_DEPTH */
+    LUAD51_FIELD_OVER_LIMIT = 5,      /* a row's constants, upvalues or stack are over their limit */
+    LUAD51_WORD_COUNT_MISMATCH = 6,   /* the words are not 4 bytes for each word that the rows state */
+    LUAD51_ROLE_BUFFER_TOO_SHORT = 7  /* the role buffer has less than LUAD51_ROLE_BYTES for each word */
+};
+
+/* Writes the role of every word, in the order of the words, to the front of the role buffer. A record is two i32,
+ * LUAD51_ROLE_BYTES together:
+ *   -1     -1     an instruction
+ *   owner  index  the binding of upvalue `index` that follows the CLOSURE at pc `owner` of the same prototype
+ *   owner  -1     the extra word that follows the SETLIST at pc `owner` of the same prototype
+ * A CLOSURE whose child Bx exists has a binding for each upvalue of that child, a SETLIST with C = 0 one extra word, as
+ * far as the prototype has words; other words have none. Bindings and extra words are never read as CLOSURE or SETLIST.
+ * What lies past the records is unchanged. A refused call leaves the whole role buffer untouched.
+ *
+ * The result is figure + 2^32 * refusal; bits 40 to 63 are 0.
+ *   accepted  refusal LUAD51_ACCEPTED; the figure is the number of words, which is the number of records
+ *   refused   refusal 1 to 7; the figure is the first guilty row for LUAD51_BAD_DEPTH and LUAD51_FIELD_OVER_LIMIT,
+ *             otherwise 0
+ */
+uint64_t luad51_roles(const uint8_t *protos, size_t protos_len, const uint8_t *words, size_t words_len,
+                      uint8_t *roles, size_t roles_len);
+
+/* A result's refusal, as in enum luad51_refusal_number. */
+static inline uint32_t luad51_refusal(uint64_t result)
+{
+    return result >> 32 & 0xff;
+}
+
+/* A result's figure. */
+static inline uint32_t luad51_figure(uint64_t result)
+{
+    return result & 0xffffffff;
+}
+
+#ifdef __cplusplus
+}
+#endif
+
+#endif

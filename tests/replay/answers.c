@@ -1,0 +1,365 @@
+#include "answers.h"
+
+#include <errno.h>
+#include <stdio.h>
+#include <stdlib.h>
+#include <string.h>
+
+#include "luad51.h"
+
+/* Values in one group of a repetition at most. */
+#define LONGEST_GROUP 64
+
+/* How the values of a line are written: in decimal within limits, or as eight hexadecimal digits. */
+struct form {
+    bool hexadecimal;
+    int64_t least;
+    int64_t most;
+};
+
+static const struct form FIELD = {false, 0, UINT32_MAX};
+static const struct form WORD = {true, 0, UINT32_MAX};
+static const struct form RECORD_VALUE = {false, INT32_MIN, INT32_MAX};
+static const struct form DELTA = {false, -(int64_t)UINT32_MAX, UINT32_MAX};
+
+struct group {
+    size_t count;
+    int64_t values[LONGEST_GROUP];
+};
+
+/* A group that is repeated, the deltas added each time. A single value is a group of one. */
+struct item {
+    struct group group;
+    struct group deltas;
+    uint32_t times;
+};
+
+/* Ends the program. */
+static void malformed(const struct answers *answers, const char *what)
+{
+    fprintf(stderr, "%s:%lu: %s\n", answers->path, answers->line, what);
+    exit(2);
+}
+
+void *allocate(size_t len)
+{
+    void *block = malloc(len > 0 ? len : 1);
+    if (block == NULL) {
+        fprintf(stderr, "no memory for %lu bytes\n", (unsigned long)len);
+        exit(2);
+    }
+    return block;
+}
+
+/* Passes over a text if it stands here. */
+static bool take(struct answers *answers, const char *text)
+{
+    size_t len = strlen(text);
+    if (strncmp(answers->at, text, len) != 0)
+        return false;
+    answers->at += len;
+    return true;
+}
+
+/* Passes over a text that must stand here. */
+static void need(struct answers *answers, const char *text)
+{
+    if (!take(answers, text)) {
+        fprintf(stderr, "%s:%lu: expected '%s'\n", answers->path, answers->line, text);
+        exit(2);
+    }
+}
+
+static void end_line(struct answers *answers)
+{
+    if (!take(answers, "\n"))
+        malformed(answers, "the line does not end where it must");
+    answers->line++;
+}
+
+/* A line that the calls replayed here do not need. */
+static void skip_line(struct answers *answers, const char *name)
+{
+    need(answers, name);
+    answers->at += strcspn(answers->at, "\n");
+    end_line(answers);
+}
+
+/* A decimal number without leading zeros. */
+static int64_t decimal(struct answers *answers, int64_t least, int64_t most)
+{
+    bool negative = take(answers, "-");
+    const char *first = answers->at;
+    int64_t value = 0;
+    while (*answers->at >= '0' && *answers->at <= '9' && value <= UINT32_MAX)
+        value = 10 * value + (*answers->at++ - '0');
+    if (answers->at == first || (*first == '0' && (negative || answers->at > first + 1)))
+        malformed(answers, "not a decimal number");
+    if (negative)
+        value = -value;
+    if (value < least || value > most)
+        malformed(answers, "a number out of range");
+    return value;
+}
+
+static uint32_t u32(struct answers *answers)
+{
+    return (uint32_t)decimal(answers, 0, UINT32_MAX);
+}
+
+/* A number of so many lower-case hexadecimal digits. */
+static uint32_t hexadecimal(struct answers *answers, int digits)
+{
+    static const char known[] = "0123456789abcdef";
+    uint32_t value = 0;
+    for (int i = 0; i < digits; i++) {
+        const char *digit = memchr(known, *answers->at, 16);
+        if (digit == NULL)
+            malformed(answers, "not a hexadecimal digit");
+        value = value << 4 | (uint32_t)(digit - known);
+        answers->at++;
+    }
+    return value;
+}
+
+static int64_t read_value(struct answers *answers, const struct form *form)
+{
+    return form->hexadecimal ? hexadecimal(answers, 8) : decimal(answers, form->least, form->most);
+}
+
+/* The rest of a group whose parenthesis is open. */
+static void read_group(struct answers *answers, const struct form *form, struct group *group)
+{
+    group->count = 0;
+    do {
+        if (group->count == LONGEST_GROUP)
+            malformed(answers, "a group that is too long");
+        group->values[group->count++] = read_value(answers, form);
+    } while (take(answers, " "));
+    need(answers, ")");
+}
+
+static uint32_t read_times(struct answers *answers)
+{
+    need(answers, "*");
+    return (uint32_t)decimal(answers, 1, UINT32_MAX);
+}
+
+/* v, v*k, (a b c)*k or, in decimal, (a b c)+(x y z)*k. */
+static void read_item(struct answers *answers, const struct form *form, struct item *item)
+{
+    memset(&item->deltas, 0, sizeof item->deltas);
+    item->times = 1;
+    if (!take(answers, "(")) {
+        item->group.count = 1;
+        item->group.values[0] = read_value(answers, form);
+        if (*answers->at == '*')
+            item->times = read_times(answers);
+        return;
+    }
+    read_group(answers, form, &item->group);
+    if (!form->hexadecimal && take(answers, "+(")) {
+        read_group(answers, &DELTA, &item->deltas);
+        if (item->deltas.count != item->group.count)
+            malformed(answers, "not as many deltas as values");
+    }
+    item->times = read_times(answers);
+}
+
+/* Four bytes, least first; negative numbers in two's complement. */
+static void put(uint8_t *to, int64_t value)
+{
+    for (int i = 0; i < 4; i++)
+        to[i] = (uint8_t)((uint32_t)value >> 8 * i);
+}
+
+/* Writes out a repetition; returns where its bytes end. */
+static uint8_t *expand(const struct answers *answers, const struct form *form, struct item *item, uint8_t *to,
+                       const uint8_t *end)
+{
+    struct group *group = &item->group;
+    for (uint32_t time = 0; time < item->times; time++) {
+        if ((size_t)(end - to) < 4 * group->count)
+            malformed(answers, "more values than stated");
+        for (size_t i = 0; i < group->count; i++, to += 4) {
+            if (group->values[i] < form->least || group->values[i] > form->most)
+                malformed(answers, "a repetition that goes out of range");
+            put(to, group->values[i]);
+            group->values[i] += item->deltas.values[i];
+        }
+    }
+    return to;
+}
+
+/* The rest of a line of values: so many bytes, as far as these are whole values. */
+static struct bytes read_values(struct answers *answers, const struct form *form, size_t len)
+{
+    struct bytes bytes = {allocate(len), len};
+    uint8_t *to = bytes.at;
+    const uint8_t *end = to + len / 4 * 4;
+    while (take(answers, " ")) {
+        struct item item;
+        read_item(answers, form, &item);
+        to = expand(answers, form, &item, to, end);
+    }
+    if (to != end)
+        malformed(answers, "fewer values than stated");
+    end_line(answers);
+    return bytes;
+}
+
+/* A line of bytes, and the line for those that are no whole value. */
+static struct bytes read_bytes(struct answers *answers, const char *name, const char *tail, const struct form *form)
+{
+    need(answers, name);
+    size_t len = u32(answers);
+    struct bytes bytes = read_values(answers, form, len);
+    if (len % 4 > 0) {
+        need(answers, tail);
+        for (size_t i = len / 4 * 4; i < len; i++)
+            bytes.at[i] = (uint8_t)hexadecimal(answers, 2);
+        end_line(answers);
+    }
+    return bytes;
+}
+
+static void read_label(struct answers *answers, struct image *image)
+{
+    need(answers, "image ");
+    image->label = answers->at;
+    while (*answers->at > ' ' && *answers->at <= '~')
+        answers->at++;
+    image->label_len = (int)(answers->at - image->label);
+    if (image->label_len == 0)
+        malformed(answers, "an image without a label");
+    end_line(answers);
+}
+
+static void read_incoming(struct answers *answers)
+{
+    need(answers, "incoming ");
+    u32(answers);
+    need(answers, " ");
+    u32(answers);
+    end_line(answers);
+}
+
+static void read_buffers(struct answers *answers, struct image *image)
+{
+    need(answers, "buffers ");
+    image->role_buffer_len = u32(answers);
+    need(answers, " ");
+    u32(answers);
+    need(answers, " ");
+    u32(answers);
+    end_line(answers);
+}
+
+static struct outcome read_outcome(struct answers *answers, const char *name, uint32_t last_refusal)
+{
+    struct outcome outcome;
+    need(answers, name);
+    outcome.refusal = (uint32_t)decimal(answers, 0, last_refusal);
+    need(answers, " ");
+    outcome.figure = u32(answers);
+    end_line(answers);
+    return outcome;
+}
+
+/* The line of role records: one for each word; if accepted, they fit and their number is the figure. */
+static void read_role_records(struct answers *answers, struct image *image)
+{
+    need(answers, "R ");
+    size_t count = u32(answers);
+    if (count != image->words.len / LUAD51_WORD_BYTES)
+        malformed(answers, "not as many role records as words");
+    size_t len = LUAD51_ROLE_BYTES * count;
+    if (image->roles.refusal == 0 && (count != image->roles.figure || len > image->role_buffer_len))
+        malformed(answers, "role records that do not suit an accepted call");
+    image->role_records = read_values(answers, &RECORD_VALUE, len);
+}
+
+static void read_image(struct answers *answers, struct image *image)
+{
+    read_label(answers, image);
+    read_incoming(answers);
+    image->table = read_bytes(answers, "table ", "tail ", &FIELD);
+    image->words = read_bytes(answers, "words ", "wtail ", &WORD);
+    read_buffers(answers, image);
+    image->roles = read_outcome(answers, "roles ", LUAD51_ROLE_BUFFER_TOO_SHORT);
+    skip_line(answers, "bindings ");
+    skip_line(answers, "check ");
+    if (image->roles.refusal == 0 || image->roles.refusal == LUAD51_ROLE_BUFFER_TOO_SHORT) {
+        read_role_records(answers, image);
+        skip_line(answers, "B ");
+        skip_line(answers, "D ");
+    } else {
+        image->role_records.at = NULL;
+        image->role_records.len = 0;
+    }
+    end_line(answers);
+}
+
+/* Ends the program, for a file that cannot be read. */
+static void unreadable(const char *path)
+{
+    fprintf(stderr, "%s: %s\n", path, strerror(errno));
+    exit(2);
+}
+
+/* The whole of a file, and a null character after it. */
+static char *read_text(const char *path, size_t *len)
+{
+    FILE *file = fopen(path, "rb");
+    if (file == NULL)
+        unreadable(path);
+    size_t room = 1 << 20, got;
+    char *text = allocate(room);
+    *len = 0;
+    while ((got = fread(text + *len, 1, room - *len - 1, file)) > 0) {
+        *len += got;
+        if (*len == room - 1) {
+            char *larger = memcpy(allocate(2 * room), text, *len);
+            free(text);
+            text = larger;
+            room *= 2;
+        }
+    }
+    if (ferror(file))
+        unreadable(path);
+    fclose(file);
+    text[*len] = '\0';
+    return text;
+}
+
+void answers_open(struct answers *answers, const char *path)
+{
+    size_t len;
+    answers->path = path;
+    answers->text = read_text(path, &len);
+    answers->at = answers->text;
+    answers->end = answers->text + len;
+    answers->line = 1;
+    if (len == 0)
+        malformed(answers, "no images");
+}
+
+bool answers_next(struct answers *answers, struct image *image)
+{
+    if (answers->at == answers->end)
+        return false;
+    read_image(answers, image);
+    return true;
+}
+
+void answers_close(struct answers *answers)
+{
+    free(answers->text);
+}
+
+void image_release(struct image *image)
+{
+    free(image->table.at);
+    free(image->words.at);
+    free(image->role_records.at);
+}

@@ -7,15 +7,16 @@ use mathlib.Core.Path.{_≡_, refl, sym, _∙_, ap, subst⁻¹}
 use mathlib.Core.Bool.{Bool, true, false}
 use mathlib.Core.List.{List, [], _∷_}
 use mathlib.Core.Option.{Option, none, some}
-use lib.Dec.{eqb, ltb}
+use lib.Dec.{T, eqb, eqb→eq, ltb, ltb→lt}
 use lib.ListN.{length, getD, drop, getElem?, length-drop, List·getD-eq-default}
-use borrow.Author.Tests.{ltb-true, ltb-false, eqb-true, eqb-false}
+use borrow.Author.Tests.{lt-ltb, le-ltb, eq-eqb, ne-eqb, ltb-true, ltb-false, eqb-true, eqb-false}
 use Rattle.opcodes.specs.Lists.{select, keepIf, takeWhile, goOnIf}
 use Rattle.roles.specs.Table.{Row, rowBytes, fieldAt, rowAt, rows, below, children, childAt}
-use Rattle.roles.specs.Contracts.{childOf, childOfRow, Resumes, protoIn}
+use Rattle.roles.specs.Contracts.{childOf, childOfRow, isChild, Resumes, protoIn}
 use Rattle.roles.specs.declared.table.Child.{Child}
 use Rattle.roles.specs.declared.table.Child.the-variants as child
 use Rattle.roles.specs.declared.search.Cursor.{Cursor}
+use Rattle.opcodes.proofs.TestLaws.{T-and}
 use Rattle.roles.proofs.TableLaws.{length-rows, drop-rows, child-end, child-found, child-next, child-deeper, child-upvalues, child-missing}
 
 -- ---- one row more
@@ -157,6 +158,34 @@ found (suc n) table d at k c h e = by-row (ltb at (length table / rowBytes)) (lt
           resumes = λ j. row-deeper table at d there (k + j) deep ∙ later .resumes j;
         }
 
+-- ---- a row that is a child by its depth
+
+module _ (table : List ℕ) (row d : ℕ) where
+  pub no-row : length table / rowBytes ≤ row → false ≡ isChild table row d
+  unfolding isChild
+  no-row h = rw (length-rows, le-ltb _ _ h)
+
+  module _ (x : ℕ) (there : row < length table / rowBytes) (e : x ≡ fieldAt table row 0) where
+    by-depth : isChild table row d ≡ eqb x (suc d)
+    unfolding isChild rowAt
+    by-depth = rw (length-rows, lt-ltb _ _ there, ← e)
+
+    pub shallow : x ≤ d → false ≡ isChild table row d
+    shallow h = sym (by-depth ∙ ne-eqb x (suc d) (λ f. omega arith))
+
+    pub by-difference : d < x → eqb (x - d) 1 ≡ isChild table row d
+    by-difference h = go (eqb x (suc d)) refl ∙ sym by-depth
+      where
+        go : (b : Bool) → eqb x (suc d) ≡ b → eqb (x - d) 1 ≡ eqb x (suc d)
+        go true q = let one : x - d ≡ 1 = omega (arith, eqb-true x (suc d) q) in eq-eqb (x - d) 1 one ∙ sym q
+        go false q = let more : x - d ≡ 1 → ⊥ = λ f. eqb-false x (suc d) q (omega arith) in ne-eqb (x - d) 1 more ∙ sym q
+
+  child-here : isChild table row d ≡ true → childAt d (drop row (rows table)) 0 ≡ some (rowAt table row)
+  unfolding isChild
+  child-here e =
+      let t = T-and (ltb row (length (rows table))) (eqb (rowAt table row .depth) (suc d)) (subst⁻¹ T e tt) in
+      row-found table row d (omega (arith, ltb→lt row (length (rows table)) (t .0), length-rows table)) (eqb→eq (rowAt table row .depth) (suc d) (t .1))
+
 -- ---- the children of the prototype in a row
 
 module _ (table : List ℕ) (parent : ℕ) where
@@ -210,3 +239,11 @@ module _ (table : List ℕ) (parent : ℕ) where
       f
       ∙ ap (λ (n : ℕ). search table (u .row) n (k - u .index)) e
       ∙ sym (ap childOf (ap (childOfRow table parent) (sym whole) ∙ v .resumes (k - u .index)))
+
+  -- the child last found is named again
+  pub named-again : (u : Cursor) (k d : ℕ) (r : Bool) → Resumes table parent u → k ≡ u .index → d ≡ fieldAt table parent 0 → r ≡ isChild table (u .row) d → r ≡ true → child.Row (u .row) ≡ childOf (childOfRow table parent k)
+  unfolding childOf rowAt
+  named-again u k d r v same e f t =
+      let whole : k ≡ u .index + 0 = omega arith in
+      let here = child-here table (u .row) (rowAt table parent .depth) (ap (isChild table (u .row)) (sym e) ∙ sym f ∙ t) in
+      sym (ap childOf (ap (childOfRow table parent) whole ∙ v .resumes 0 ∙ here))

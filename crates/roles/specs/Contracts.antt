@@ -1,7 +1,7 @@
 -- What the code's own types stand for: the terms in which its contracts cite the other definitions. Assumes nothing: these are definitions.
 use Prim.Native.Nat.{ℕ, suc, _+_, _*_, _/_}
 use mathlib.Core.Path.{_≡_}
-use mathlib.Core.Bool.{cond}
+use mathlib.Core.Bool.{Bool, _&&_, cond}
 use mathlib.Core.List.{List, [], _∷_}
 use mathlib.Core.Option.{Option, none, some}
 use lib.Dec.{eqb, ltb}
@@ -60,6 +60,10 @@ childOf (some r) = child.Row (r .row)
 -- child k of the prototype in row `parent`
 unfoldable pub childOfRow : List ℕ → ℕ → ℕ → Option Row
 childOfRow table parent k = childAt (rowAt table parent .depth) (drop (suc parent) (rows table)) k
+
+-- there is such a row, one deeper than d
+unfoldable pub isChild : List ℕ → ℕ → ℕ → Bool
+isChild table row d = ltb row (length (rows table)) && eqb (rowAt table row .depth) (suc d)
 
 -- from the cursor's row on, its children are counted from the cursor's index
 pub record Resumes (table : List ℕ) (parent : ℕ) (c : Cursor) : Type 0 where

@@ -5,8 +5,6 @@ use crate::search::Cursor;
 use crate::table::Child;
 use crate::table::UPVALUES;
 use crate::table::field;
-use opcodes::Opcode51;
-use opcodes::OpcodeField;
 use opcodes::RawInstruction51;
 use opcodes::bytes::read_u32;
 ghost use mathlib.Core.Bool.{cond};
@@ -20,6 +18,12 @@ ghost use Rattle.roles.specs.Contracts.{Resumes, bindingsOf, claimed, co
 ghost use Rattle.roles.specs.declared.discovery.Companions.the-variants.{Extra, None};
 ghost use Rattle.roles.specs.Roles.{ClosureBinding, recordsOf, roleBytes, roles};
 ghost use Rattle.roles.specs.Table.{rowAt, rowBytes};
+
+// The opcodes that own words, by their numbers: of the 64 numbers a damaged word may have, a test for two is foreseen by the processor,
+// one for the known 38 is not.
+const CLOSURE: u8 = 36;
+
+const SETLIST: u8 = 34;
 
 // The words that an executable word owns: none, those that bind a child's upvalues, or a SETLIST's extra word.
 pub enum Companions {
@@ -65,20 +69,15 @@ fn claim_of(protos: &[u8], row: usize, cursor: Cursor, word: u32) -> Claim
     ensures { λ r. ⌜ Resumes (now (protos .entry)) row (r .cursor) ⌝ }
 {
     let w = RawInstruction51::decode(word);
-    let opcode = w.opcode;
-    let OpcodeField::Known(op) = opcode else {
-        return Claim {
-            cursor,
-            companions: Companions::None,
-        };
-    };
-    match op {
-        Opcode51::Closure => claim_child(protos, row, cursor, w.bx),
-        Opcode51::SetList => claim_extra(cursor, w.c),
-        _ => Claim {
-            cursor,
-            companions: Companions::None,
-        },
+    if w.opcode_num == CLOSURE {
+        return claim_child(protos, row, cursor, w.bx);
+    }
+    if w.opcode_num == SETLIST {
+        return claim_extra(cursor, w.c);
+    }
+    Claim {
+        cursor,
+        companions: Companions::None,
     }
 }
 

@@ -90,6 +90,7 @@ pub fn time() {
     let real = measure("real-like", images::real_like(most));
     let same = measure("same last child", images::same_last_child(most, 0));
     let bound = measure("same last child, 2 upvalues", images::same_last_child(most, 2));
+    measure("same missing child", images::same_missing_child());
     measure("rising children", images::rising_children());
     measure("any bits", images::any_bits());
     measure("alternating (worst case)", images::alternating(16_384));

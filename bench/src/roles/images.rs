@@ -176,6 +176,13 @@ pub fn any_bits() -> Image {
     fan(&code, &children)
 }
 
+/// CLOSUREs that all name a child that is missing, where only a search past all the rows below the one child shows it.
+pub fn same_missing_child() -> Image {
+    let mut sources = vec![Source::main(8, 0, STACK, &vec![closure(0, 1); WORDS])];
+    sources.extend((1..ROWS).map(|row| Source::main(0, 0, STACK, &[]).at(1 + u32::from(row > 1))));
+    image(&sources)
+}
+
 /// CLOSUREs that name the first and the last child by turns, of as many children as there can be.
 pub fn alternating(words: usize) -> Image {
     let code = [closure(0, 0), closure(0, ROWS as u32 - 2)].repeat(words / 2);

@@ -130,6 +130,9 @@ module _ (table words old : List ℕ) (accepted : rolesRefusal table words (leng
           let r : getD (rows table) row (rowAt table row) .words ≡ n = ap (λ (x : Row). x .words) (getD-rows table row (rowAt table row) there) ∙ words-of in
           omega (arith, v .before)
 
+      pub rows-there : (rowBytes * row + rowBytes ≤ length table) × (length table / rowBytes ≤ 16384)
+      rows-there = (omega arith, omega (arith, kept .row-limit, length-rows table))
+
       pub words-there : (4 * (first + n) ≤ 4194304) × (4 * (first + n) ≤ length words) × (roleBytes * (first + n) ≤ length out)
       words-there = (
         omega (arith, next, total-front (rows table) (suc row), kept .word-count, kept .word-limit),

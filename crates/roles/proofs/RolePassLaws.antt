@@ -11,9 +11,9 @@ use lib.Seq.{take-nil, take-all, take-at, take-add, drop-at, drop-drop, drop-con
 use Rattle.opcodes.specs.Lists.{only}
 use Rattle.opcodes.specs.Bytes.{u32At, u32s, overwrite}
 use Rattle.opcodes.specs.Words.{is, CLOSURE, SETLIST}
-use Rattle.roles.specs.Table.{rowAt, Proto, protoOf}
+use Rattle.roles.specs.Table.{rowBytes, rowAt, Proto, protoOf}
 use Rattle.roles.specs.Roles.{Role, Instruction, bindingCount, hasExtra, claims, rolesFrom, roles, roleBytes, recordsOf}
-use Rattle.roles.specs.Contracts.{Resumes, protoIn, bindingsOf, companionsOf, claimed}
+use Rattle.roles.specs.Contracts.{Tracks, protoIn, bindingsOf, companionsOf, claimed}
 use Rattle.roles.specs.declared.search.Cursor.{Cursor}
 use Rattle.roles.specs.declared.discovery.Companions.{Companions}
 use Rattle.opcodes.proofs.ByteLaws.{length-u32s, getD-u32s, length-overwrite}
@@ -61,7 +61,7 @@ claims-claimed table row pc w ws = go (is w (CLOSURE ∷ [])) (hasExtra w) refl 
 pub record RolePass (table : List ℕ) (row : ℕ) (code old out : List ℕ) (pc : ℕ) (u : Cursor) : Type 0 where
   pub within : pc ≤ length code / 4
   pub long : length out ≡ length old
-  pub resumes : Resumes table row u
+  pub tracks : Tracks table row u
   pub left : drop pc (roles (protoIn table row (u32s code))) ≡ rolesFrom (protoIn table row (u32s code)) pc [] (drop pc (u32s code))
   pub written : out ≡ overwrite old 0 (recordsOf (take pc (roles (protoIn table row (u32s code)))))
 
@@ -77,9 +77,9 @@ module _ (table : List ℕ) (row : ℕ) (code : List ℕ) (stated : rowAt table 
   count : length (roles p) ≡ length code / 4
   count = length-roles p ∙ ap length code-of ∙ length-u32s code
 
-  pub pass-begins : (old : List ℕ) → RolePass table row code old old 0 (record { index = 0; row = row + 1 })
+  pub pass-begins : (old : List ℕ) (n : ℕ) → n ≡ length table / rowBytes → RolePass table row code old old 0 (record { index = 0; row = row + 1; end = n })
   unfolding roles
-  pass-begins old = record { within = omega arith; long = refl; resumes = begins table row; left = ap (rolesFrom p 0 []) code-of; written = records-none old 0 }
+  pass-begins old n e = record { within = omega arith; long = refl; tracks = begins table row n e; left = ap (rolesFrom p 0 []) code-of; written = records-none old 0 }
 
   module _ (old out : List ℕ) (pc : ℕ) (u : Cursor) (v : RolePass table row code old out pc u) where
     pub pass-ends : length code / 4 ≤ pc → out ≡ overwrite old 0 (recordsOf (roles p))
@@ -108,7 +108,7 @@ module _ (table : List ℕ) (row : ℕ) (code : List ℕ) (stated : rowAt table 
           ∙ ap (λ (l : List Role). Instruction ∷ l)
           (past-claims p (suc pc) cl ws ∙ ap (λ (l : List Role). l ++ rolesFrom p (suc pc + length l) [] (drop (length l) ws)) all)
 
-      pub pass-next : (m new : List ℕ) (k : ℕ) (u′ : Cursor) → Resumes table row u′ → k ≡ length mine → m ≡ overwrite out (roleBytes * pc) (recordsOf (Instruction ∷ []))
+      pub pass-next : (m new : List ℕ) (k : ℕ) (u′ : Cursor) → Tracks table row u′ → k ≡ length mine → m ≡ overwrite out (roleBytes * pc) (recordsOf (Instruction ∷ []))
           → new ≡ overwrite m (roleBytes * (pc + 1)) (recordsOf mine) → RolePass table row code old new (pc + (1 + k)) u′
       pass-next m new k u′ r l e d =
           let rs = take pc (roles p) in
@@ -124,7 +124,7 @@ module _ (table : List ℕ) (row : ℕ) (code : List ℕ) (stated : rowAt table 
           record {
             within = omega arith;
             long = ap length both ∙ length-overwrite old 0 _;
-            resumes = r;
+            tracks = r;
             left =
                 subst⁻¹ (λ (n : ℕ). drop n (roles p) ≡ rolesFrom p n [] (drop n (u32s code))) to
                 (drop-front (roles p) pc (Instruction ∷ mine) _ front

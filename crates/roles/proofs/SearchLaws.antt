@@ -12,12 +12,12 @@ use lib.ListN.{length, getD, drop, getElem?, length-drop, List·getD-eq-default}
 use borrow.Author.Tests.{lt-ltb, le-ltb, eq-eqb, ne-eqb, ltb-true, ltb-false, eqb-true, eqb-false}
 use Rattle.opcodes.specs.Lists.{select, keepIf, takeWhile, goOnIf}
 use Rattle.roles.specs.Table.{Row, rowBytes, fieldAt, rowAt, rows, below, children, childAt}
-use Rattle.roles.specs.Contracts.{childOf, childOfRow, isChild, Resumes, protoIn}
+use Rattle.roles.specs.Contracts.{childOf, childOfRow, isChild, Tracks, protoIn}
 use Rattle.roles.specs.declared.table.Child.{Child}
 use Rattle.roles.specs.declared.table.Child.the-variants as child
 use Rattle.roles.specs.declared.search.Cursor.{Cursor}
 use Rattle.opcodes.proofs.TestLaws.{T-and}
-use Rattle.roles.proofs.TableLaws.{length-rows, drop-rows, child-end, child-found, child-next, child-deeper, child-upvalues, child-missing}
+use Rattle.roles.proofs.TableLaws.{length-rows, drop-rows, child-end, child-found, child-next, child-deeper, child-upvalues, child-missing, element-missing}
 
 -- ---- one row more
 
@@ -189,11 +189,11 @@ module _ (table : List ℕ) (row d : ℕ) where
 -- ---- the children of the prototype in a row
 
 module _ (table : List ℕ) (parent : ℕ) where
-  -- what is known of child k: where it stands, how many upvalues it has, and that the search can be resumed there
+  -- child k stands in row r
   pub record FoundChild (k r : ℕ) : Type 0 where
     pub there : r < length table / rowBytes
     pub upvalues : getD (protoIn table parent [] .children) k 0 ≡ fieldAt table r 3
-    pub resumes : Resumes table parent (record { index = k; row = r })
+    pub resumes : (j : ℕ) → childOfRow table parent (k + j) ≡ childAt (rowAt table parent .depth) (drop r (rows table)) j
 
   pub found-child : (k r : ℕ) → child.Row r ≡ childOf (childOfRow table parent k) → FoundChild k r
   unfolding childOf childOfRow protoIn rowAt
@@ -207,32 +207,62 @@ module _ (table : List ℕ) (parent : ℕ) where
           record {
             there = omega (arith, v .there);
             upvalues = child-upvalues (rowAt table parent) (drop (suc parent) (rows table)) [] k c f ∙ ap (λ (x : Row). x .upvalues) (v .same) ∙ ap (λ (n : ℕ). fieldAt table n 3) number;
-            resumes = record { resumes = λ j. v .resumes j ∙ ap (λ (n : ℕ). childAt (rowAt table parent .depth) (drop n (rows table)) j) number };
+            resumes = λ j. v .resumes j ∙ ap (λ (n : ℕ). childAt (rowAt table parent .depth) (drop n (rows table)) j) number;
           }
 
-  pub missing-child : (k : ℕ) → child.Missing ≡ childOf (childOfRow table parent k) → getD (protoIn table parent [] .children) k 0 ≡ 0
-  unfolding childOf childOfRow protoIn
-  missing-child k e = go (childOfRow table parent k) refl e
+  missing : (k : ℕ) → child.Missing ≡ childOf (childOfRow table parent k) → childOfRow table parent k ≡ none
+  unfolding childOf
+  missing k e = go (childOfRow table parent k) e
     where
-      go : (o : Option Row) → childOfRow table parent k ≡ o → child.Missing ≡ childOf o → getD (protoIn table parent [] .children) k 0 ≡ 0
-      go none f e = List·getD-eq-default (protoIn table parent [] .children) 0 (child-missing (rowAt table parent) (drop (suc parent) (rows table)) [] k f)
-      go (some c) f e = let z : _≡_ {A = ℕ} 0 1 = cc in absurd (omega arith)
+      go : (o : Option Row) → child.Missing ≡ childOf o → o ≡ none
+      go none e = refl
+      go (some c) e = let z : _≡_ {A = ℕ} 0 1 = cc in absurd (omega arith)
+
+  -- a missing child has no upvalues
+  none-bound : (k : ℕ) → childOfRow table parent k ≡ none → 0 ≡ getD (protoIn table parent [] .children) k 0
+  unfolding childOfRow protoIn
+  none-bound k e = sym (List·getD-eq-default (protoIn table parent [] .children) 0 (child-missing (rowAt table parent) (drop (suc parent) (rows table)) [] k e))
+
+  pub missing-bound : (k : ℕ) → child.Missing ≡ childOf (childOfRow table parent k) → 0 ≡ getD (protoIn table parent [] .children) k 0
+  missing-bound k e = none-bound k (missing k e)
+
+  -- ---- the cursor
 
   -- the search begins right after the row
-  pub begins : Resumes table parent (record { index = 0; row = parent + 1 })
+  pub begins : (n : ℕ) → n ≡ length table / rowBytes → Tracks table parent (record { index = 0; row = parent + 1; end = n })
   unfolding childOfRow
-  begins = record { resumes = λ k. rw (zero-add, add-one) }
+  begins n e =
+      record {
+        resumes = λ k. rw (zero-add, add-one);
+        ends = λ k h. too-few table (suc parent) (rowAt table parent .depth) k (omega arith);
+      }
 
   -- the same cursor
-  pub unmoved : (u v : Cursor) → v ≡ u → Resumes table parent u → Resumes table parent v
-  unmoved u v e h = subst⁻¹ (Resumes table parent) e h
+  pub unmoved : (u v : Cursor) → v ≡ u → Tracks table parent u → Tracks table parent v
+  unmoved u v e h = subst⁻¹ (Tracks table parent) e h
+
+  -- past the end
+  pub past-end : (u : Cursor) (k : ℕ) → Tracks table parent u → u .end ≤ k → 0 ≡ getD (protoIn table parent [] .children) k 0
+  past-end u k v h = none-bound k (v .ends k h)
+
+  -- it is moved to a child that was found, or a child was missed
+  pub moved : (u : Cursor) (k r : ℕ) → Tracks table parent u → FoundChild k r → Tracks table parent (record { index = k; row = r; end = u .end })
+  moved u k r v f = record { resumes = f .resumes; ends = v .ends }
+
+  pub missed : (u : Cursor) (k : ℕ) → Tracks table parent u → child.Missing ≡ childOf (childOfRow table parent k) → Tracks table parent (record { index = u .index; row = u .row; end = k })
+  unfolding childOfRow childAt
+  missed u k v e =
+      record {
+        resumes = v .resumes;
+        ends = λ j h. element-past-end (children (rowAt table parent .depth) (drop (suc parent) (rows table))) j (omega (arith, element-missing (children (rowAt table parent .depth) (drop (suc parent) (rows table))) k (missing k e)));
+      }
 
   -- it begins anew, or is resumed
   pub anew : (k d : ℕ) (c : Child) → d ≡ fieldAt table parent 0 → c ≡ search table (parent + 1) d k → c ≡ childOf (childOfRow table parent k)
   unfolding childOfRow rowAt
   anew k d c e f = f ∙ rw (e, add-one)
 
-  pub resumed : (u : Cursor) (k d : ℕ) (c : Child) → Resumes table parent u → u .index ≤ k → d ≡ fieldAt table parent 0 → c ≡ search table (u .row) d (k - u .index) → c ≡ childOf (childOfRow table parent k)
+  pub resumed : (u : Cursor) (k d : ℕ) (c : Child) → Tracks table parent u → u .index ≤ k → d ≡ fieldAt table parent 0 → c ≡ search table (u .row) d (k - u .index) → c ≡ childOf (childOfRow table parent k)
   unfolding rowAt
   resumed u k d c v h e f =
       let whole : u .index + (k - u .index) ≡ k = omega arith in
@@ -241,7 +271,7 @@ module _ (table : List ℕ) (parent : ℕ) where
       ∙ sym (ap childOf (ap (childOfRow table parent) (sym whole) ∙ v .resumes (k - u .index)))
 
   -- the child last found is named again
-  pub named-again : (u : Cursor) (k d : ℕ) (r : Bool) → Resumes table parent u → k ≡ u .index → d ≡ fieldAt table parent 0 → r ≡ isChild table (u .row) d → r ≡ true → child.Row (u .row) ≡ childOf (childOfRow table parent k)
+  pub named-again : (u : Cursor) (k d : ℕ) (r : Bool) → Tracks table parent u → k ≡ u .index → d ≡ fieldAt table parent 0 → r ≡ isChild table (u .row) d → r ≡ true → child.Row (u .row) ≡ childOf (childOfRow table parent k)
   unfolding childOf rowAt
   named-again u k d r v same e f t =
       let whole : k ≡ u .index + 0 = omega arith in

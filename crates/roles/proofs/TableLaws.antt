@@ -114,7 +114,7 @@ element-value f [] k x e = let z : _≡_ {A = ℕ} 0 1 = cc in absurd (omega ari
 element-value f (y ∷ ys) zero x e = cc
 element-value f (y ∷ ys) (suc k) x e = element-value f ys k x e
 
-element-missing : {A : Type 0} (xs : List A) (k : ℕ) → getElem? xs k ≡ none → length xs ≤ k
+pub element-missing : {A : Type 0} (xs : List A) (k : ℕ) → getElem? xs k ≡ none → length xs ≤ k
 element-missing [] k e = omega arith
 element-missing (y ∷ ys) zero e = let z : _≡_ {A = ℕ} 0 1 = cc in absurd (omega arith)
 element-missing (y ∷ ys) (suc k) e = suc-le-suc (element-missing ys k e)

@@ -1,5 +1,5 @@
 -- What the code's own types stand for: the terms in which its contracts cite the other definitions. Assumes nothing: these are definitions.
-use Prim.Native.Nat.{ℕ, suc, _+_, _*_, _/_}
+use Prim.Native.Nat.{ℕ, suc, _+_, _*_, _/_, _≤_}
 use mathlib.Core.Path.{_≡_}
 use mathlib.Core.Bool.{Bool, _&&_, cond}
 use mathlib.Core.List.{List, [], _∷_}
@@ -65,9 +65,11 @@ childOfRow table parent k = childAt (rowAt table parent .depth) (drop (suc paren
 unfoldable pub isChild : List ℕ → ℕ → ℕ → Bool
 isChild table row d = ltb row (length (rows table)) && eqb (rowAt table row .depth) (suc d)
 
--- from the cursor's row on, its children are counted from the cursor's index
-pub record Resumes (table : List ℕ) (parent : ℕ) (c : Cursor) : Type 0 where
+-- what a cursor knows of the prototype in row `parent`: from the cursor's row on, its children are counted from the cursor's index; from
+-- another number on, there are none
+pub record Tracks (table : List ℕ) (parent : ℕ) (c : Cursor) : Type 0 where
   pub resumes : (k : ℕ) → childOfRow table parent (c .index + k) ≡ childAt (rowAt table parent .depth) (drop (c .row) (rows table)) k
+  pub ends : (k : ℕ) → c .end ≤ k → childOfRow table parent k ≡ none
 
 -- ---- companions
 

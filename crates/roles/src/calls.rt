@@ -9,7 +9,7 @@ use crate::table::WORDS;
 use crate::table::field;
 ghost use mathlib.Core.Path.{_≡_};
 ghost use mathlib.Core.Option.{none};
-ghost use Prim.Native.Nat.{_+_, _*_, _≤_};
+ghost use Prim.Native.Nat.{_+_, _*_, _/_, _≤_};
 ghost use lib.ListN.{drop, length};
 ghost use Rattle.opcodes.specs.Bytes.{overwrite, u32s};
 ghost use Rattle.roles.specs.Calls.{rolesAfter, rolesAnswer};
@@ -54,7 +54,8 @@ fn fill_roles(protos: &[u8], words: &[u8], roles: &mut [u8])
 
 // The words of a row, from `first` to `next`, and their part of the buffer.
 fn fill_row(protos: &[u8], words: &[u8], roles: &mut [u8], row: usize, first: usize, next: usize)
-    requires { ⌜ (rowBytes * row + rowBytes ≤ length (now protos)) × (first + rowAt (now protos) row .words ≡ next) ⌝ }
+    requires { ⌜ (rowBytes * row + rowBytes ≤ length (now protos)) × (length (now protos) / rowBytes ≤ 16384) ⌝ }
+    requires { ⌜ first + rowAt (now protos) row .words ≡ next ⌝ }
     requires { ⌜ (4 * next ≤ 4194304) × (4 * next ≤ length (now words)) × (roleBytes * next ≤ length (now roles)) ⌝ }
     ensures { λ _. ⌜ now (roles .exit) ≡ overwrite (now (roles .entry)) (roleBytes * first) (recordsOf (rolesOf (protoIn (now (protos .entry)) row (drop first (u32s (now (words .entry))))))) ⌝ }
 {

@@ -3,6 +3,7 @@ use crate::role::Lua51PhysicalRole;
 use crate::role::write_role;
 use crate::search::Cursor;
 use crate::table::Child;
+use crate::table::ROW_BYTES;
 use crate::table::UPVALUES;
 use crate::table::field;
 use opcodes::RawInstruction51;
@@ -14,7 +15,7 @@ ghost use Prim.Native.Nat.{_+_, _*_, _/_, _<_, _≤_};
 ghost use lib.ListN.{length, take};
 ghost use Rattle.opcodes.specs.Bytes.{overwrite, u32s};
 ghost use Rattle.opcodes.specs.Lists.{tabulate};
-ghost use Rattle.roles.specs.Contracts.{Resumes, bindingsOf, claimed, companionsOf, protoIn};
+ghost use Rattle.roles.specs.Contracts.{Tracks, bindingsOf, claimed, companionsOf, protoIn};
 ghost use Rattle.roles.specs.declared.discovery.Companions.the-variants.{Extra, None};
 ghost use Rattle.roles.specs.Roles.{ClosureBinding, recordsOf, roleBytes, roles};
 ghost use Rattle.roles.specs.Table.{rowAt, rowBytes};
@@ -41,7 +42,7 @@ pub struct Claim {
 // Writes the roles of a row's words to the front of its part of the buffer. Each word is looked at once: an owner marks its companions, as
 // far as they exist, and the next word to be looked at is the one after them.
 pub fn discover_proto(protos: &[u8], row: usize, code: &[u8], out: &mut [u8])
-    requires { ⌜ rowBytes * row + rowBytes ≤ length (now protos) ⌝ }
+    requires { ⌜ (rowBytes * row + rowBytes ≤ length (now protos)) × (length (now protos) / rowBytes ≤ 16384) ⌝ }
     requires { ⌜ rowAt (now protos) row .words ≡ length (now code) / 4 ⌝ }
     requires { ⌜ (length (now code) ≤ 4194304) × (2 * length (now code) ≤ length (now out)) ⌝ }
     ensures { λ _. ⌜ now (out .exit) ≡ overwrite (now (out .entry)) 0 (recordsOf (roles (protoIn (now (protos .entry)) row (u32s (now (code .entry)))))) ⌝ }
@@ -50,6 +51,7 @@ pub fn discover_proto(protos: &[u8], row: usize, code: &[u8], out: &mut [u8])
     let mut cursor = Cursor {
         index: 0,
         row: row + 1,
+        end: (protos.len() / ROW_BYTES) as u32,
     };
     let mut pc = 0;
     while pc < n {
@@ -64,9 +66,9 @@ pub fn discover_proto(protos: &[u8], row: usize, code: &[u8], out: &mut [u8])
 // What an executable word of the row owns.
 fn claim_of(protos: &[u8], row: usize, cursor: Cursor, word: u32) -> Claim
     requires { ⌜ rowBytes * row + rowBytes ≤ length (now protos) ⌝ }
-    requires { ⌜ Resumes (now protos) row cursor ⌝ }
+    requires { ⌜ Tracks (now protos) row cursor ⌝ }
     ensures { λ r. ⌜ r .companions ≡ companionsOf (now (protos .entry)) row word ⌝ }
-    ensures { λ r. ⌜ Resumes (now (protos .entry)) row (r .cursor) ⌝ }
+    ensures { λ r. ⌜ Tracks (now (protos .entry)) row (r .cursor) ⌝ }
 {
     let w = RawInstruction51::decode(word);
     if w.opcode_num == CLOSURE {
@@ -84,19 +86,26 @@ fn claim_of(protos: &[u8], row: usize, cursor: Cursor, word: u32) -> Claim
 // A CLOSURE that names child k owns a word for each of its upvalues, where there is such a child.
 fn claim_child(protos: &[u8], row: usize, cursor: Cursor, k: u32) -> Claim
     requires { ⌜ rowBytes * row + rowBytes ≤ length (now protos) ⌝ }
-    requires { ⌜ Resumes (now protos) row cursor ⌝ }
+    requires { ⌜ Tracks (now protos) row cursor ⌝ }
     ensures { λ r. ⌜ r .companions ≡ bindingsOf (now (protos .entry)) row k ⌝ }
-    ensures { λ r. ⌜ Resumes (now (protos .entry)) row (r .cursor) ⌝ }
+    ensures { λ r. ⌜ Tracks (now (protos .entry)) row (r .cursor) ⌝ }
 {
+    if cursor.end <= k {
+        return Claim {
+            cursor,
+            companions: Companions::Bindings(0),
+        };
+    }
     match cursor.find(protos, row, k) {
         Child::Missing => Claim {
-            cursor,
+            cursor: Cursor { end: k, ..cursor },
             companions: Companions::Bindings(0),
         },
         Child::Row(child) => Claim {
             cursor: Cursor {
                 index: k,
                 row: child,
+                ..cursor
             },
             companions: Companions::Bindings(field(protos, child, UPVALUES)),
         },

@@ -7,20 +7,21 @@ use crate::table::find_child;
 ghost use mathlib.Core.Path.{_≡_};
 ghost use Prim.Native.Nat.{_+_, _*_, _≤_};
 ghost use lib.ListN.{length};
-ghost use Rattle.roles.specs.Contracts.{Resumes, childOf, childOfRow, isChild};
+ghost use Rattle.roles.specs.Contracts.{Tracks, childOf, childOfRow, isChild};
 ghost use Rattle.roles.specs.Table.{rowBytes};
 
-// Child `index` of the prototype is child 0 of those from row `row` on.
+// Child `index` of the prototype is child 0 of those from row `row` on. There is no child of number `end` or above.
 pub struct Cursor {
     pub index: u32,
     pub row: usize,
+    pub end: u32,
 }
 
 impl Cursor {
     // Child k of the prototype in row `parent`. The child last found, named again, is found without a search.
     pub fn find(self, protos: &[u8], parent: usize, k: u32) -> Child
         requires { ⌜ rowBytes * parent + rowBytes ≤ length (now protos) ⌝ }
-        requires { ⌜ Resumes (now protos) parent self ⌝ }
+        requires { ⌜ Tracks (now protos) parent self ⌝ }
         ensures { λ r. ⌜ r ≡ childOf (childOfRow (now (protos .entry)) parent k) ⌝ }
     {
         let depth = field(protos, parent, DEPTH);

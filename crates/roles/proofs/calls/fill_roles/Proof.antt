@@ -4,7 +4,7 @@ use native.Mathlib.Omega.{arith}
 use mathlib.Core.Path.{_≡_, refl}
 use lib.ListN.{length}
 use Rattle.roles.specs.Table.{rowBytes}
-use Rattle.roles.proofs.RoleFillLaws.{RoleFill, fill-begins, fill-ends, fill-next, words-of, words-there}
+use Rattle.roles.proofs.RoleFillLaws.{RoleFill, fill-begins, fill-ends, fill-next, words-of, rows-there, words-there}
 use Rattle.roles.proofs.calls.fill_roles.Statement.{statement}
 use Rattle.roles.proofs.calls.fill_roles.Tie as tie
 
@@ -26,7 +26,7 @@ requires c κs =
     let pre = l .before .before .before .before .pre in
     let stated = words-of _ _ _ pre _ _ _ (l .loop .inv .0) (omega arith) _ (c .before .field .ensures) in
     let t = words-there _ _ _ pre _ _ _ (l .loop .inv .0) (omega arith) _ (c .before .field .ensures) in
-    ((omega arith, omega (arith, stated)), t)
+    (rows-there _ _ _ pre _ _ _ (l .loop .inv .0) (omega arith) _ (c .before .field .ensures), (omega (arith, stated), t))
 
 loop-again : tie.Need-loop-again Inv μ
 loop-again c =

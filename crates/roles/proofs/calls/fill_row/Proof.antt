@@ -9,13 +9,13 @@ requires : tie.Need-discover-proto-requires
 requires c κs =
     let a = c .before .before .before .before .before .args in
     let pre = c .before .before .before .before .before .pre in
-    let size = part-length (a .protos .now) (a .words .now) (a .row) (a .first) (a .next) (pre .0 .1) (pre .1 .1) in
-    (pre .0 .0, (omega (arith, size), (omega (arith, size, pre .1 .0), part-room _ _ _ _ _ (pre .0 .1) (pre .1 .1) _ (pre .1 .2))))
+    let size = part-length (a .protos .now) (a .words .now) (a .row) (a .first) (a .next) (pre .1 .0) (pre .1 .1 .1) in
+    (pre .0, (omega (arith, size), (omega (arith, size, pre .1 .1 .0), part-room _ _ _ _ _ (pre .1 .0) (pre .1 .1 .1) _ (pre .1 .1 .2))))
 
 returns : tie.Need-returns
 returns c =
     let pre = c .before .before .before .before .before .before .before .before .pre in
-    part-written _ _ _ _ _ (pre .0 .1) (pre .1 .1) _ _ (pre .1 .2) (c .before .before .discover-proto .ensures)
+    part-written _ _ _ _ _ (pre .1 .0) (pre .1 .1 .1) _ _ (pre .1 .1 .2) (c .before .before .discover-proto .ensures)
 
 pub fill-row-spec : {M : Type 1} → statement M
 fill-row-spec =

@@ -4,7 +4,7 @@ use mathlib.Core.Path.{sym, _∙_, ap}
 use borrow.Author.Needs.{needs}
 use Rattle.roles.specs.Contracts.{bindingsOf}
 use Rattle.roles.specs.declared.discovery.Companions.the-variants.{Bindings}
-use Rattle.roles.proofs.SearchLaws.{found-child, missing-child}
+use Rattle.roles.proofs.SearchLaws.{found-child, missing-bound, past-end, moved, missed}
 use Rattle.roles.proofs.discovery.claim_child.Statement.{statement}
 use Rattle.roles.proofs.discovery.claim_child.Tie as tie
 
@@ -13,21 +13,29 @@ field-requires c κs =
     let f = found-child _ _ _ _ (sym (c .before .child .given .1) ∙ c .before .before .before .find .ensures) in
     (omega (arith, f .there), omega arith)
 
-missing : tie.Need-returns
+past : tie.Need-returns
 unfolding bindingsOf
-missing c = (ap Bindings (sym (missing-child _ _ _ (sym (c .enum-told .given .1) ∙ c .before .before .find .ensures))), c .before .before .before .before .pre .1)
+past c = let pre = c .before .before .before .pre in (ap Bindings (past-end _ _ _ _ (pre .1) (c .if1 .taken)), pre .1)
 
-found : tie.Need-returns-2
+missing : tie.Need-returns-2
+unfolding bindingsOf
+missing c =
+    let e = sym (c .enum-told .given .1) ∙ c .before .before .find .ensures in
+    (ap Bindings (missing-bound _ _ _ e), missed _ _ _ _ (c .before .before .before .before .before .before .pre .1) e)
+
+found : tie.Need-returns-3
 unfolding bindingsOf
 found c =
-    let f = found-child _ _ _ _ (sym (c .before .before .child .given .1) ∙ c .before .before .before .before .find .ensures) in
-    (ap Bindings (c .field .ensures ∙ sym (f .upvalues)), f .resumes)
+    let b = c .before .before .before .before in
+    let f = found-child _ _ _ _ (sym (c .before .before .child .given .1) ∙ b .find .ensures) in
+    (ap Bindings (c .field .ensures ∙ sym (f .upvalues)), moved _ _ _ _ _ (b .before .before .before .before .pre .1) f)
 
 pub claim-child-spec : {M : Type 1} → statement M
 claim-child-spec =
     tie.close
     (tie.spec
-    (λ c κs. (c .before .pre .0, c .before .pre .1))
+    past
+    (λ c κs. let b = c .before .before .before in (b .pre .0, b .pre .1))
     (λ c. search needs)
     (λ c. search needs)
     field-requires

@@ -29,10 +29,11 @@ discover-proto-spec =
     Inv
     μ
     (λ c. omega arith)
-    (λ c. (pass-begins _ _ _ (c .before .before .before .pre .1 .0) _, refl))
+    (λ c. omega arith)
+    (λ c. (pass-begins _ _ _ (c .before .before .before .pre .1 .0) _ _ refl, refl))
     (λ c. omega arith)
     (λ c κs. tt)
-    (λ c κs. let l = c .before .before in (l .before .before .before .before .pre .0, l .loop .inv .0 .resumes))
+    (λ c κs. let l = c .before .before in (l .before .before .before .before .pre .0 .0, l .loop .inv .0 .tracks))
     (λ c κs. omega arith)
     (λ c. omega arith)
     (λ c. omega arith)

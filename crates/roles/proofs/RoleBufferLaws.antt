@@ -1,18 +1,20 @@
 -- Reading a role back from a buffer that the roles were written to. Assumes nothing.
-use Prim.Native.Nat.{ℕ, zero, suc, _+_, _*_, _≤_, _<_, _^_}
+use Prim.Native.Nat.{ℕ, zero, suc, _+_, _-_, _*_, _/_, _≤_, _<_, _^_}
 use native.Mathlib.Omega.{arith}
 use mathlib.Core.Path.{_≡_, refl, sym, _∙_, ap, ap₂}
 use mathlib.Core.Logic.{_↔_}
 use mathlib.Core.Bool.{Bool, true, false}
 use mathlib.Core.List.{List, [], _∷_, map, flatMap}
-use lib.Dec.{T}
-use lib.ListN.{length, getD, take, drop, length-append, length-map, length-take, length-drop, List·getD-map}
+use lib.Dec.{T, ltb}
+use borrow.Author.Tests.{lt-ltb, le-ltb, ne-eqb, ltb-true, ltb-false}
+use lib.ListN.{length, getD, take, drop, length-append, length-map, length-take, length-drop, List·getD-map, List·getD-eq-default}
 use lib.IntN.{ℤ, pos, negsuc}
 use Rattle.opcodes.specs.Lists.{All, all-nil, all-cons, only, upFrom}
 use Rattle.opcodes.specs.Bytes.{i32Bits, i32Record, u32Record, u32At, u32s, overwrite}
 use Rattle.roles.specs.Table.{Row, rows, Proto, protoOf, protosOf, protos}
 use Rattle.roles.specs.Roles.{Role, Instruction, ClosureBinding, SetlistExtra, isExecutable, bindingCount, hasExtra, claims, rolesFrom, roles, roleAt, roleFields, roleRecords}
 use Rattle.roles.specs.Refusals.{wordTotal}
+use Rattle.roles.specs.Contracts.{ownerField, indexField, roleFrom, roleIn}
 use Rattle.opcodes.specs.Words.{is, fieldBx, CLOSURE}
 use Rattle.opcodes.proofs.TestLaws.{by-cond}
 use Rattle.opcodes.proofs.AllLaws.{all-getD, all-at, all-append, all-map, all-flatMap, all-imp}
@@ -20,7 +22,8 @@ use lib.Seq.{length-take-le, take-all, take-length}
 use Rattle.opcodes.proofs.ListLaws.{getD-flatMap, flatMap-index, length-flatMap}
 use Rattle.roles.proofs.RefusalLaws.{ImageKept}
 use Rattle.roles.proofs.TableLaws.{children-most, length-protosOf}
-use Rattle.opcodes.proofs.ByteLaws.{length-u32s, u32At-record}
+use Rattle.opcodes.proofs.ByteLaws.{length-u32s, length-overwrite, u32At-record}
+use Rattle.opcodes.proofs.PartLaws.{u32At-part}
 
 -- ---- a role for each word
 
@@ -141,6 +144,13 @@ executable-by-field Instruction h = (λ _. tt, λ _. refl)
 executable-by-field (ClosureBinding owner index) h = (λ e. absurd (omega (arith, h .0)), λ t. absurd t)
 executable-by-field (SetlistExtra owner) h = (λ e. absurd (omega arith), λ t. absurd t)
 
+-- and both tell the role
+fields-tell : (r : Role) → RoleBelow (2 ^ 31) r → roleFrom (ownerField r) (indexField r) ≡ r
+unfolding roleFrom ownerField indexField roleFields i32Bits
+fields-tell Instruction h = refl
+fields-tell (ClosureBinding owner index) h = rw (ne-eqb owner 4294967295 (λ e. omega (arith, h .0)), ne-eqb index 4294967295 (λ e. omega (arith, h .1)))
+fields-tell (SetlistExtra owner) h = rw (ne-eqb owner 4294967295 (λ e. omega arith))
+
 -- ---- an accepted image
 
 words-most : (n : ℕ) (rs : List Row) (words : List ℕ) → length words ≤ n → All (λ (p : Proto). length (p .code) ≤ n) (protosOf rs words)
@@ -190,6 +200,11 @@ module _ (table words : List ℕ) (kept : ImageKept table words) where
       ∙ role-field ps old k j (records-small ps limited) (index-below ps i pc p there l) m (omega (arith, length-all-roles))
       ∙ ap (λ (r : Role). i32Bits (getD (roleFields r) j (pos 0))) (role-at ps i pc p there l)
 
+  -- the last word of prototype i is one of them
+  last-below : (i : ℕ) (p : Proto) → i < length (protos table words) → (pc : ℕ) → pc < length (getD (protos table words) i p .code) → wordTotal (take i (rows table)) + pc < wordTotal (rows table)
+  unfolding protos
+  last-below i p there pc l = omega (arith, words-before (rows table) (u32s words) i enough, index-below (protosOf (rows table) (u32s words)) i pc p there l, length-all-roles)
+
   -- so a word is executable exactly where the first field is -1
   pub executable-in-buffer : (old : List ℕ) (i pc : ℕ) (p : Proto) → 8 * wordTotal (rows table) ≤ length old → i < length (rows table) → pc < length (getD (protos table words) i p .code)
       → (u32At (overwrite old 0 (i32Record (roleRecords (protos table words)))) (8 * (wordTotal (take i (rows table)) + pc)) ≡ 4294967295) ↔ T (isExecutable (roleAt (getD (protos table words) i p) pc))
@@ -204,3 +219,41 @@ module _ (table words : List ℕ) (kept : ImageKept table words) where
       ap (λ (n : ℕ). u32At (overwrite old 0 (i32Record (roleRecords ps))) n) (omega arith) ∙ role-in-buffer old i pc 0 p fits h l (omega arith) in
       let x = executable-by-field (roleAt q pc) small in
       (λ f. x .0 (sym e ∙ f), λ t. e ∙ x .1 t)
+
+  -- a role looked up in the part of the buffer that has a prototype's records is the word's role: for every pc, past the last word too
+  module _ (old : List ℕ) (i : ℕ) (p : Proto) (fits : 8 * wordTotal (rows table) ≤ length old) (h : i < length (rows table)) where
+    abbrev q : Proto
+    q = getD (protos table words) i p
+
+    abbrev records : List ℕ
+    records = take (8 * length (q .code)) (drop (8 * wordTotal (take i (rows table))) (overwrite old 0 (i32Record (roleRecords (protos table words)))))
+
+    looked-up-past : (pc : ℕ) → length (q .code) ≤ pc → roleIn records pc ≡ roleAt q pc
+    unfolding roleIn roleAt
+    looked-up-past pc l =
+        let none : length records / 8 ≤ pc = omega (arith, length-take (8 * length (q .code)) (drop (8 * wordTotal (take i (rows table))) (overwrite old 0 (i32Record (roleRecords (protos table words)))))) in
+        (rw (le-ltb pc (length records / 8) none)) ∙ sym (List·getD-eq-default (roles q) Instruction (omega (arith, length-roles q)))
+
+    looked-up-word : (pc : ℕ) → pc < length (q .code) → roleIn records pc ≡ roleAt q pc
+    unfolding roleIn roleAt ownerField indexField
+    looked-up-word pc l =
+        let first = wordTotal (take i (rows table)) in
+        let buffer = overwrite old 0 (i32Record (roleRecords (protos table words))) in
+        let n = length (q .code) in
+        let there : i < length (protos table words) = omega (arith, length-protos) in
+        let last : first + (n - 1) < wordTotal (rows table) = last-below i p there (n - 1) (omega arith) in
+        let size : length records ≡ 8 * n = length-take-le (8 * n) (drop (8 * first) buffer) (omega (arith, length-drop (8 * first) buffer, length-overwrite old 0 (i32Record (roleRecords (protos table words))))) in
+        let inside : pc < length records / 8 = omega arith in
+        let owner : u32At records (8 * pc) ≡ ownerField (roleAt q pc) =
+        u32At-part buffer (8 * first) (8 * n) (8 * pc) (omega arith) ∙ ap (u32At buffer) (omega arith) ∙ role-in-buffer old i pc 0 p fits h l (omega arith) in
+        let index : u32At records (8 * pc + 4) ≡ indexField (roleAt q pc) =
+        u32At-part buffer (8 * first) (8 * n) (8 * pc + 4) (omega arith) ∙ ap (u32At buffer) (omega arith) ∙ role-in-buffer old i pc 1 p fits h l (omega arith) in
+        let small : RoleBelow (2 ^ 31) (roleAt q pc) = all-getD pc Instruction tt (proto-roles-below (2 ^ 31) q (all-at i p there limited)) in
+        (rw (lt-ltb pc (length records / 8) inside, owner, index)) ∙ fields-tell (roleAt q pc) small
+
+    pub role-looked-up : (pc : ℕ) → roleIn records pc ≡ roleAt q pc
+    role-looked-up pc = go (ltb pc (length (q .code))) refl
+      where
+        go : (b : Bool) → ltb pc (length (q .code)) ≡ b → roleIn records pc ≡ roleAt q pc
+        go true e = looked-up-word pc (ltb-true pc (length (q .code)) e)
+        go false e = looked-up-past pc (ltb-false pc (length (q .code)) e)

@@ -15,7 +15,9 @@
  * empty slice or buffer pass any valid pointer with length 0.
  * Nothing is allocated, nothing is kept after a call, and there is no global state: any number of threads may call at
  * the same time, each with a role buffer of its own.
- * STACK: TO BE MEASURED
+ * A call takes at most LUAD51_STACK_BYTES of stack. Only the search for a child of a CLOSURE takes much: it goes one call
+ * deeper for each row that it passes, of 48 bytes as compiled for x86-64, and it passes at most 16,383. From one CLOSURE
+ * of a prototype to the next it goes on from the child found last.
  */
 #ifndef LUAD51_H
 #define LUAD51_H
@@ -36,6 +38,9 @@ extern "C" {
 #define LUAD51_ROW_BYTES 20
 #define LUAD51_WORD_BYTES 4
 #define LUAD51_ROLE_BYTES 8
+
+/* Stack that a call takes at most: measured, not proved. */
+#define LUAD51_STACK_BYTES 800000
 
 /* Why a call was refused: the least number whose condition holds. */
 enum luad51_refusal_number {

@@ -80,20 +80,37 @@ fn measure(name: &str, image: Image) -> f64 {
     ours
 }
 
+/// The images by their names.
+const IMAGES: [(&str, fn() -> Image); 7] = [
+    ("real-like", || images::real_like(images::WORDS)),
+    ("same last child", || images::same_last_child(images::WORDS, 0)),
+    ("same last child, 2 upvalues", || images::same_last_child(images::WORDS, 2)),
+    ("same missing child", images::same_missing_child),
+    ("rising children", images::rising_children),
+    ("any bits", images::any_bits),
+    ("alternating (worst case)", || images::alternating(16_384)),
+];
+
+/// Compares the roles of the images with luad's, and times nothing.
+pub fn compare_all() {
+    let mut words = 0;
+    for (name, make) in IMAGES {
+        let image = make();
+        let chunk = model::decode(&image);
+        let mut roles = vec![0; ROLE_LEN * image.words.len() / 4];
+        compare(name, &image, &model::preorder(&chunk.main_proto), &mut roles);
+        words += image.words.len() / 4;
+    }
+    println!("{} images, {words} words: every role is luad's", IMAGES.len());
+}
+
 pub fn time() {
     println!("{:28}{:>7}{:>9}{:>7}{:>22}{:>8}{:>18}", "", "", "", "", "ms in all", "", "ns a word");
     println!(
         "{:28}{:>7}{:>9}{:>7}{:>12}{:>10}{:>8}{:>10}{:>8}",
         "image", "rows", "words", "turns", "proved", "luad", "ratio", "proved", "luad"
     );
-    let most = images::WORDS;
-    let real = measure("real-like", images::real_like(most));
-    let same = measure("same last child", images::same_last_child(most, 0));
-    let bound = measure("same last child, 2 upvalues", images::same_last_child(most, 2));
-    measure("same missing child", images::same_missing_child());
-    measure("rising children", images::rising_children());
-    measure("any bits", images::any_bits());
-    measure("alternating (worst case)", images::alternating(16_384));
+    let [real, same, bound, ..] = IMAGES.map(|(name, make)| measure(name, make()));
     println!(
         "same last child takes {:.2} times as long as real-like, with 2 upvalues {:.2}",
         same / real,

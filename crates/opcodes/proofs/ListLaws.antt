@@ -3,10 +3,11 @@ use Prim.Native.Nat.{ℕ, zero, suc, _+_, _*_, _≤_, _<_}
 use native.Mathlib.Nat.{add-zero, zero-add, add-suc, suc-add, mul-zero, mul-suc, not-suc-le-zero, le-of-suc-le-suc}
 use native.Mathlib.Omega.{arith}
 use mathlib.Core.Path.{_≡_, refl, sym, _∙_, ap}
+use mathlib.Core.Bool.{Bool, true, false}
 use mathlib.Core.List.{List, [], _∷_, _++_, map, flatMap, append-assoc}
 use lib.ListN.{length, getD, take, length-append, length-map, List·getD-append}
 use lib.Seq.{getD-append-add}
-use Rattle.opcodes.specs.Lists.{upFrom, tabulate}
+use Rattle.opcodes.specs.Lists.{upFrom, tabulate, select, keepIf, takeWhile, goOnIf}
 
 pub length-upFrom : (i n : ℕ) → length (upFrom i n) ≡ n
 length-upFrom i zero = refl
@@ -39,6 +40,25 @@ take-map-upFrom f i (suc m) (suc n) h = ap (λ (l : List _). f i ∷ l) (take-ma
 
 pub take-tabulate : {A : Type 0} (f : ℕ → A) (m n : ℕ) → m ≤ n → take m (tabulate n f) ≡ tabulate m f
 take-tabulate f m n h = take-map-upFrom f 0 m n h
+
+-- ---- what a test keeps is no longer than the list
+
+module _ {A : Type 0} (f : A → Bool) where
+  pub select-most : (xs : List A) → length (select f xs) ≤ length xs
+  select-most [] = omega arith
+  select-most (x ∷ xs) = go (f x) (select-most xs)
+    where
+      go : (b : Bool) → length (select f xs) ≤ length xs → length (keepIf b x (select f xs)) ≤ suc (length xs)
+      go true h = omega arith
+      go false h = omega arith
+
+  pub takeWhile-most : (xs : List A) → length (takeWhile f xs) ≤ length xs
+  takeWhile-most [] = omega arith
+  takeWhile-most (x ∷ xs) = go (f x) (takeWhile-most xs)
+    where
+      go : (b : Bool) → length (takeWhile f xs) ≤ length xs → length (goOnIf b x (takeWhile f xs)) ≤ suc (length xs)
+      go true h = omega arith
+      go false h = omega arith
 
 -- ---- lists end to end
 

@@ -58,11 +58,11 @@ module _ (table words : List ℕ) where
   -- ---- 4 to 6
 
   module _ (r : Bool) (s : Sized r) (small : r ≡ false) where
-    miscount : Option Refused
-    miscount = refuseIf (not (eqb (length words) (4 * wordTotal (rows table)))) 6 0
+    count-refusal : Option Refused
+    count-refusal = refuseIf (not (eqb (length words) (4 * wordTotal (rows table)))) 6 0
 
-    rest : orElse (badDepth 0 0 (rows table)) (orElse (badField (rows table)) miscount) ≡ imageRefusal table words
-    unfolding imageRefusal refuseIf orElse miscount
+    rest : orElse (badDepth 0 0 (rows table)) (orElse (badField (rows table)) count-refusal) ≡ imageRefusal table words
+    unfolding imageRefusal refuseIf orElse count-refusal
     rest = rw (ne-eqb _ _ (s .some-row), eq-eqb _ _ (s .whole-rows), length-rows table, ← s .size, small)
 
     module _ (d : Acceptance) (depths : refusalOf d ≡ badDepth 0 0 (rows table)) where
@@ -70,22 +70,22 @@ module _ (table words : List ℕ) where
       bad-depth x e = refuses d x _ _ e depths ∙ rest
 
       module _ (deep : d ≡ acceptance.Accepted) (f : Acceptance) (fields : refusalOf f ≡ badField (rows table)) where
-        later : orElse (badField (rows table)) miscount ≡ imageRefusal table words
+        later : orElse (badField (rows table)) count-refusal ≡ imageRefusal table words
         later = sym (accepts d _ _ deep depths) ∙ rest
 
         pub bad-field : (x : Refusal) → f ≡ acceptance.Refused x → refusalOf (acceptance.Refused x) ≡ imageRefusal table words
         bad-field x e = refuses f x _ _ e fields ∙ later
 
         module _ (fit : f ≡ acceptance.Accepted) (n : ℕ) (total : n ≡ wordTotal (rows table)) where
-          last : miscount ≡ imageRefusal table words
+          last : count-refusal ≡ imageRefusal table words
           last = sym (accepts f _ _ fit fields) ∙ later
 
           pub mismatch : (length words ≡ 4 * n → ⊥) → refuse 6 0 ≡ imageRefusal table words
-          unfolding refuseIf miscount
+          unfolding refuseIf count-refusal
           mismatch g = (let no = ne-eqb (length words) (4 * n) g in rw (← total, no)) ∙ last
 
           pub accepted-image : length words ≡ 4 * n → none ≡ imageRefusal table words
-          unfolding refuseIf miscount
+          unfolding refuseIf count-refusal
           accepted-image e = (let yes = eq-eqb (length words) (4 * n) e in rw (← total, yes)) ∙ last
 
 -- ---- 7

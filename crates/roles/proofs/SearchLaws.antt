@@ -10,45 +10,30 @@ use mathlib.Core.Option.{Option, none, some}
 use lib.Dec.{T, eqb, eqb→eq, ltb, ltb→lt}
 use lib.ListN.{length, getD, drop, getElem?, length-drop, List·getD-eq-default}
 use borrow.Author.Tests.{lt-ltb, le-ltb, eq-eqb, ne-eqb, ltb-true, ltb-false, eqb-true, eqb-false}
-use Rattle.opcodes.specs.Lists.{select, keepIf, takeWhile, goOnIf}
+use Rattle.opcodes.specs.Lists.{takeWhile}
 use Rattle.roles.specs.Table.{Row, rowBytes, fieldAt, rowAt, rows, below, children, childAt}
 use Rattle.roles.specs.Contracts.{childOf, childOfRow, isChild, Tracks, protoIn}
 use Rattle.roles.specs.declared.table.Child.{Child}
 use Rattle.roles.specs.declared.table.Child.the-variants as child
 use Rattle.roles.specs.declared.search.Cursor.{Cursor}
+use Rattle.opcodes.proofs.ListLaws.{select-most, takeWhile-most}
 use Rattle.opcodes.proofs.TestLaws.{T-and}
 use Rattle.roles.proofs.TableLaws.{length-rows, drop-rows, child-end, child-found, child-next, child-deeper, child-upvalues, child-missing, element-missing}
 
 -- ---- one row more
-
--- there are no more children than rows
-length-takeWhile : {A : Type 0} (f : A → Bool) (xs : List A) → length (takeWhile f xs) ≤ length xs
-length-takeWhile f [] = omega arith
-length-takeWhile f (x ∷ xs) = go (f x) (length-takeWhile f xs)
-  where
-    go : (b : Bool) → length (takeWhile f xs) ≤ length xs → length (goOnIf b x (takeWhile f xs)) ≤ suc (length xs)
-    go true h = omega arith
-    go false h = omega arith
-
-length-select : {A : Type 0} (f : A → Bool) (xs : List A) → length (select f xs) ≤ length xs
-length-select f [] = omega arith
-length-select f (x ∷ xs) = go (f x) (length-select f xs)
-  where
-    go : (b : Bool) → length (select f xs) ≤ length xs → length (keepIf b x (select f xs)) ≤ suc (length xs)
-    go true h = omega arith
-    go false h = omega arith
 
 element-past-end : {A : Type 0} (xs : List A) (k : ℕ) → length xs ≤ k → getElem? xs k ≡ none
 element-past-end [] k h = refl
 element-past-end (x ∷ xs) zero h = absurd (not-suc-le-zero h)
 element-past-end (x ∷ xs) (suc k) h = element-past-end xs k (le-of-suc-le-suc h)
 
+-- there are no more children than rows
 child-few : (d : ℕ) (later : List Row) (k : ℕ) → length later ≤ k → childAt d later k ≡ none
 unfolding childAt children below
 child-few d later k h =
     let f : Row → Bool = λ r. eqb (r .depth) (suc d) in
     let g : Row → Bool = λ r. ltb d (r .depth) in
-    element-past-end (children d later) k (omega (arith, length-select f (takeWhile g later), length-takeWhile g later))
+    element-past-end (children d later) k (omega (arith, select-most f (takeWhile g later), takeWhile-most g later))
 
 -- the rows left are no more than k
 too-few : (table : List ℕ) (at d k : ℕ) → length table / rowBytes ≤ at + k → childAt d (drop at (rows table)) k ≡ none

@@ -22,7 +22,7 @@ use Rattle.validator.specs.Walk.{inRow, Walk, MAX-DIAGNOSTICS, countN, s
 use Rattle.validator.specs.Image.{Image, imageProtos, imageWalk, diagnostics}
 use Rattle.validator.specs.Statements.{Accepted}
 use Rattle.opcodes.proofs.AllLaws.{all-getD, all-imp}
-use Rattle.opcodes.proofs.ListLaws.{length-upFrom}
+use Rattle.opcodes.proofs.ListLaws.{length-upFrom, select-most}
 use Rattle.opcodes.proofs.TestLaws.{is-not, is-among, true≢false, or-false, T-true, by-cond, disjoint}
 
 -- ---- lists end to end, so many at most
@@ -43,14 +43,6 @@ only-most : {A : Type 0} (b : Bool) (x : A) → length (only b x) ≤ 1
 unfolding only
 only-most true x = omega arith
 only-most false x = omega arith
-
-select-most : {A : Type 0} (f : A → Bool) (xs : List A) → length (select f xs) ≤ length xs
-select-most f [] = omega arith
-select-most f (x ∷ xs) = go (f x) (select-most f xs)
-  where
-    go : (b : Bool) → length (select f xs) ≤ length xs → length (keepIf b x (select f xs)) ≤ suc (length xs)
-    go true h = omega arith
-    go false h = omega arith
 
 below-most : (pc code limit : ℕ) (vs : List ℕ) (n : ℕ) → length vs ≤ n → length (notBelow pc code limit vs) ≤ n
 unfolding notBelow

@@ -1,6 +1,6 @@
 // The C interface, as include/luad51.h declares it. A call's answer goes out as one number.
 use roles::calls::Answer;
-use roles::calls::discover_roles;
+use roles::calls::write_roles;
 use roles::refusals::Refusal;
 ghost use mathlib.Core.Path.{_≡_};
 ghost use lib.ListN.{length};
@@ -15,7 +15,7 @@ pub extern "C" fn luad51_roles(protos: &[u8], words: &[u8], roles: &mut [u8]) ->
     ensures { λ r. ⌜ Reads r (rolesAnswer (now (protos .entry)) (now (words .entry)) (length (now (roles .entry)))) ⌝ }
     ensures { λ _. ⌜ now (roles .exit) ≡ rolesAfter (now (protos .entry)) (now (words .entry)) (now (roles .entry)) ⌝ }
 {
-    count_result(discover_roles(protos, words, roles))
+    count_result(write_roles(protos, words, roles))
 }
 
 // The number of a refusal or of records.

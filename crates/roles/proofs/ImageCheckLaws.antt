@@ -10,7 +10,7 @@ use lib.ListN.{length}
 use borrow.Author.Tests.{eq-eqb, ne-eqb, lt-ltb, le-ltb, ltb-false}
 use Rattle.roles.specs.Table.{rowBytes, rows}
 use Rattle.roles.specs.Refusals.{Refused, refuse, refuseIf, orElse, badDepth, badField, wordTotal, imageRefusal, rolesRefusal}
-use Rattle.roles.specs.Contracts.{refusalOf}
+use Rattle.roles.specs.Contracts.{givenRefusal}
 use Rattle.roles.specs.declared.refusals.Refusal.{Refusal}
 use Rattle.roles.specs.declared.refusals.Acceptance.{Acceptance}
 use Rattle.roles.specs.declared.refusals.Acceptance.the-variants as acceptance
@@ -19,13 +19,13 @@ use Rattle.roles.proofs.TableLaws.{length-rows}
 use Rattle.roles.proofs.RefusalLaws.{image-kept}
 
 -- a check that refuses decides; one that accepts leaves it to those after it
-pub refuses : (a : Acceptance) (r : Refusal) (o p : Option Refused) → a ≡ acceptance.Refused r → refusalOf a ≡ o → refusalOf (acceptance.Refused r) ≡ orElse o p
-unfolding refusalOf orElse
-refuses a r o p e f = let s : o ≡ refusalOf (acceptance.Refused r) = sym f ∙ ap refusalOf e in rw s
+pub refuses : (a : Acceptance) (r : Refusal) (o p : Option Refused) → a ≡ acceptance.Refused r → givenRefusal a ≡ o → givenRefusal (acceptance.Refused r) ≡ orElse o p
+unfolding givenRefusal orElse
+refuses a r o p e f = let s : o ≡ givenRefusal (acceptance.Refused r) = sym f ∙ ap givenRefusal e in rw s
 
-pub accepts : (a : Acceptance) (o p : Option Refused) → a ≡ acceptance.Accepted → refusalOf a ≡ o → orElse o p ≡ p
-unfolding refusalOf orElse
-accepts a o p e f = let s : o ≡ none = sym f ∙ ap refusalOf e in rw s
+pub accepts : (a : Acceptance) (o p : Option Refused) → a ≡ acceptance.Accepted → givenRefusal a ≡ o → orElse o p ≡ p
+unfolding givenRefusal orElse
+accepts a o p e f = let s : o ≡ none = sym f ∙ ap givenRefusal e in rw s
 
 -- ---- 1 to 3
 
@@ -65,15 +65,15 @@ module _ (table words : List ℕ) where
     unfolding imageRefusal refuseIf orElse count-refusal
     rest = rw (ne-eqb _ _ (s .some-row), eq-eqb _ _ (s .whole-rows), length-rows table, ← s .size, small)
 
-    module _ (d : Acceptance) (depths : refusalOf d ≡ badDepth 0 0 (rows table)) where
-      pub bad-depth : (x : Refusal) → d ≡ acceptance.Refused x → refusalOf (acceptance.Refused x) ≡ imageRefusal table words
+    module _ (d : Acceptance) (depths : givenRefusal d ≡ badDepth 0 0 (rows table)) where
+      pub bad-depth : (x : Refusal) → d ≡ acceptance.Refused x → givenRefusal (acceptance.Refused x) ≡ imageRefusal table words
       bad-depth x e = refuses d x _ _ e depths ∙ rest
 
-      module _ (deep : d ≡ acceptance.Accepted) (f : Acceptance) (fields : refusalOf f ≡ badField (rows table)) where
+      module _ (deep : d ≡ acceptance.Accepted) (f : Acceptance) (fields : givenRefusal f ≡ badField (rows table)) where
         later : orElse (badField (rows table)) count-refusal ≡ imageRefusal table words
         later = sym (accepts d _ _ deep depths) ∙ rest
 
-        pub bad-field : (x : Refusal) → f ≡ acceptance.Refused x → refusalOf (acceptance.Refused x) ≡ imageRefusal table words
+        pub bad-field : (x : Refusal) → f ≡ acceptance.Refused x → givenRefusal (acceptance.Refused x) ≡ imageRefusal table words
         bad-field x e = refuses f x _ _ e fields ∙ later
 
         module _ (fit : f ≡ acceptance.Accepted) (n : ℕ) (total : n ≡ wordTotal (rows table)) where
@@ -90,8 +90,8 @@ module _ (table words : List ℕ) where
 
 -- ---- 7
 
-module _ (table words : List ℕ) (room : ℕ) (a : Acceptance) (image : refusalOf a ≡ imageRefusal table words) where
-  pub bad-image : (x : Refusal) → a ≡ acceptance.Refused x → refusalOf (acceptance.Refused x) ≡ rolesRefusal table words room
+module _ (table words : List ℕ) (room : ℕ) (a : Acceptance) (image : givenRefusal a ≡ imageRefusal table words) where
+  pub bad-image : (x : Refusal) → a ≡ acceptance.Refused x → givenRefusal (acceptance.Refused x) ≡ rolesRefusal table words room
   unfolding rolesRefusal
   bad-image x e = refuses a x _ _ e image
 
@@ -104,8 +104,8 @@ module _ (table words : List ℕ) (room : ℕ) (a : Acceptance) (image : refusal
     last-of-all = sym (accepts a _ _ ok image)
 
     words-stated : length words ≡ 4 * wordTotal (rows table)
-    unfolding refusalOf
-    words-stated = image-kept table words (sym image ∙ ap refusalOf ok) .word-count
+    unfolding givenRefusal
+    words-stated = image-kept table words (sym image ∙ ap givenRefusal ok) .word-count
 
     pub too-short : room / 8 < length words / 4 → refuse 7 0 ≡ rolesRefusal table words room
     unfolding refuseIf short

@@ -8,7 +8,7 @@ use borrow.Author.Tests.{eq-eqb, ne-eqb}
 use Rattle.opcodes.specs.Words.{decoded, is, opcode, CLOSURE, SETLIST}
 use Rattle.opcodes.specs.declared.RawInstruction51.{RawInstruction51}
 use Rattle.roles.specs.Roles.{hasExtra}
-use Rattle.roles.specs.Contracts.{bindingsOf, companionsOf}
+use Rattle.roles.specs.Contracts.{childBindings, companionsOf}
 use Rattle.roles.specs.declared.discovery.Companions.the-variants.{None, Extra}
 
 module _ (table : List ℕ) (row w : ℕ) (r : RawInstruction51) (split : r ≡ decoded w) where
@@ -21,9 +21,9 @@ module _ (table : List ℕ) (row w : ℕ) (r : RawInstruction51) (split : r ≡ 
   unfolding decoded is
   other op f = rw (ne-eqb (opcode w) op (λ e. f (ap (λ (x : RawInstruction51). x .«opcode_num») split ∙ e)))
 
-  pub owns-bindings : r .«opcode_num» ≡ CLOSURE → bindingsOf table row (r .bx) ≡ companionsOf table row w
+  pub owns-bindings : r .«opcode_num» ≡ CLOSURE → childBindings table row (r .bx) ≡ companionsOf table row w
   unfolding companionsOf decoded
-  owns-bindings e = ap (λ (x : RawInstruction51). bindingsOf table row (x .bx)) split ∙ rw (same CLOSURE e)
+  owns-bindings e = ap (λ (x : RawInstruction51). childBindings table row (x .bx)) split ∙ rw (same CLOSURE e)
 
   pub owns-extra : (r .«opcode_num» ≡ CLOSURE → ⊥) → r .«opcode_num» ≡ SETLIST → cond (eqb (r .c) 0) Extra None ≡ companionsOf table row w
   unfolding companionsOf hasExtra decoded

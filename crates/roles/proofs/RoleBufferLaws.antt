@@ -2,25 +2,26 @@
 use Prim.Native.Nat.{ℕ, zero, suc, _+_, _-_, _*_, _/_, _≤_, _<_, _^_}
 use native.Mathlib.Omega.{arith}
 use mathlib.Core.Path.{_≡_, refl, sym, _∙_, ap, ap₂}
-use mathlib.Core.Logic.{_↔_}
 use mathlib.Core.Bool.{Bool, true, false}
 use mathlib.Core.List.{List, [], _∷_, map, flatMap}
-use lib.Dec.{T, ltb}
+use mathlib.Core.Option.{Option, none}
+use lib.Dec.{ltb}
 use borrow.Author.Tests.{lt-ltb, le-ltb, ne-eqb, ltb-true, ltb-false}
 use lib.ListN.{length, getD, take, drop, length-append, length-map, length-take, length-drop, List·getD-map, List·getD-eq-default}
 use lib.IntN.{ℤ, pos, negsuc}
 use Rattle.opcodes.specs.Lists.{All, all-nil, all-cons, only, upFrom}
 use Rattle.opcodes.specs.Bytes.{i32Bits, i32Record, u32Record, u32At, u32s, overwrite}
 use Rattle.roles.specs.Table.{Row, rows, Proto, protoOf, protosOf, protos}
-use Rattle.roles.specs.Roles.{Role, Instruction, ClosureBinding, SetlistExtra, isExecutable, bindingCount, hasExtra, claims, rolesFrom, roles, roleAt, roleFields, roleRecords}
-use Rattle.roles.specs.Refusals.{wordTotal}
+use Rattle.roles.specs.Roles.{Role, Instruction, ClosureBinding, SetlistExtra, bindingCount, hasExtra, claims, rolesFrom, roles, roleAt, roleFields, roleBytes, recordsOf}
+use Rattle.roles.specs.Refusals.{Refused, wordTotal, imageRefusal, rolesRefusal}
+use Rattle.roles.specs.Calls.{filled, rolesAfter}
 use Rattle.roles.specs.Contracts.{ownerField, indexField, roleFrom, roleIn}
 use Rattle.opcodes.specs.Words.{is, fieldBx, CLOSURE}
 use Rattle.opcodes.proofs.TestLaws.{by-cond}
 use Rattle.opcodes.proofs.AllLaws.{all-getD, all-at, all-append, all-map, all-flatMap, all-imp}
 use lib.Seq.{length-take-le, take-all, take-length}
 use Rattle.opcodes.proofs.ListLaws.{getD-flatMap, flatMap-index, length-flatMap}
-use Rattle.roles.proofs.RefusalLaws.{ImageKept}
+use Rattle.roles.proofs.RefusalLaws.{orElse-none, refuseIf-none, ImageKept, image-kept}
 use Rattle.roles.proofs.TableLaws.{children-most, length-protosOf}
 use Rattle.opcodes.proofs.ByteLaws.{length-u32s, length-overwrite, u32At-record}
 use Rattle.opcodes.proofs.PartLaws.{u32At-part}
@@ -73,9 +74,9 @@ length-roleFields (ClosureBinding owner index) = refl
 length-roleFields (SetlistExtra owner) = refl
 
 -- field j of record k
-pub role-field : (ps : List Proto) (old : List ℕ) (k j : ℕ) → All Small (roleRecords ps) → k < length (flatMap roles ps) → j < 2 → 8 * length (flatMap roles ps) ≤ length old
-    → u32At (overwrite old 0 (i32Record (roleRecords ps))) (8 * k + 4 * j) ≡ i32Bits (getD (roleFields (getD (flatMap roles ps) k Instruction)) j (pos 0))
-unfolding i32Record roleRecords i32Bits
+pub role-field : (ps : List Proto) (old : List ℕ) (k j : ℕ) → All Small (flatMap roleFields (flatMap roles ps)) → k < length (flatMap roles ps) → j < 2 → 8 * length (flatMap roles ps) ≤ length old
+    → u32At (overwrite old 0 (recordsOf (flatMap roles ps))) (8 * k + 4 * j) ≡ i32Bits (getD (roleFields (getD (flatMap roles ps) k Instruction)) j (pos 0))
+unfolding recordsOf i32Record i32Bits
 role-field ps old k j small h l fits =
     let all = flatMap roles ps in
     let zs = flatMap roleFields all in
@@ -88,7 +89,7 @@ role-field ps old k j small h l fits =
     ∙ List·getD-map i32Bits zs (2 * k + j) (pos 0)
     ∙ ap i32Bits (ap (λ (n : ℕ). getD zs n (pos 0)) index ∙ getD-flatMap roleFields all k j Instruction (pos 0) h (omega (arith, length-roleFields (getD all k Instruction))))
 
--- ---- every field is an i32, and an owner is not -1
+-- ---- every field is an i32, and no owner and no index is -1
 
 abbrev RoleBelow : ℕ → Role → Type 0
 RoleBelow n Instruction = Unit {0}
@@ -133,18 +134,10 @@ field-small Instruction h = all-cons {x = negsuc 0} (omega arith) (all-cons {x =
 field-small (ClosureBinding owner index) h = all-cons {x = pos owner} (omega (arith, h .0)) (all-cons {x = pos index} (omega (arith, h .1)) all-nil)
 field-small (SetlistExtra owner) h = all-cons {x = pos owner} (omega arith) (all-cons {x = negsuc 0} (omega arith) all-nil)
 
-pub records-small : (ps : List Proto) → All (Limited (2 ^ 31)) ps → All Small (roleRecords ps)
-unfolding roleRecords
+pub records-small : (ps : List Proto) → All (Limited (2 ^ 31)) ps → All Small (flatMap roleFields (flatMap roles ps))
 records-small ps h = all-flatMap Small roleFields (all-imp field-small (all-flatMap (RoleBelow (2 ^ 31)) roles (all-imp (proto-roles-below (2 ^ 31)) h)))
 
--- "-1 -1 for executable": the first field tells
-pub executable-by-field : (r : Role) → RoleBelow (2 ^ 31) r → (i32Bits (getD (roleFields r) 0 (pos 0)) ≡ 4294967295) ↔ T (isExecutable r)
-unfolding roleFields i32Bits
-executable-by-field Instruction h = (λ _. tt, λ _. refl)
-executable-by-field (ClosureBinding owner index) h = (λ e. absurd (omega (arith, h .0)), λ t. absurd t)
-executable-by-field (SetlistExtra owner) h = (λ e. absurd (omega arith), λ t. absurd t)
-
--- and both tell the role
+-- the two fields tell the role
 fields-tell : (r : Role) → RoleBelow (2 ^ 31) r → roleFrom (ownerField r) (indexField r) ≡ r
 unfolding roleFrom ownerField indexField roleFields i32Bits
 fields-tell Instruction h = refl
@@ -188,7 +181,7 @@ module _ (table words : List ℕ) (kept : ImageKept table words) where
 
   -- the word at pc of prototype i: both fields of its record, read from a buffer that the roles were written to
   pub role-in-buffer : (old : List ℕ) (i pc j : ℕ) (p : Proto) → 8 * wordTotal (rows table) ≤ length old → i < length (rows table) → pc < length (getD (protos table words) i p .code) → j < 2
-      → u32At (overwrite old 0 (i32Record (roleRecords (protos table words)))) (8 * (wordTotal (take i (rows table)) + pc) + 4 * j)
+      → u32At (overwrite old 0 (recordsOf (flatMap roles (protos table words)))) (8 * (wordTotal (take i (rows table)) + pc) + 4 * j)
       ≡ i32Bits (getD (roleFields (roleAt (getD (protos table words) i p) pc)) j (pos 0))
   unfolding protos
   role-in-buffer old i pc j p fits h l m =
@@ -196,7 +189,7 @@ module _ (table words : List ℕ) (kept : ImageKept table words) where
       let k = wordsBefore ps i + pc in
       let there : i < length ps = omega (arith, length-protosOf (rows table) (u32s words)) in
       let first : wordTotal (take i (rows table)) ≡ wordsBefore ps i = sym (words-before (rows table) (u32s words) i enough) in
-      ap (λ (n : ℕ). u32At (overwrite old 0 (i32Record (roleRecords ps))) (8 * (n + pc) + 4 * j)) first
+      ap (λ (n : ℕ). u32At (overwrite old 0 (recordsOf (flatMap roles ps))) (8 * (n + pc) + 4 * j)) first
       ∙ role-field ps old k j (records-small ps limited) (index-below ps i pc p there l) m (omega (arith, length-all-roles))
       ∙ ap (λ (r : Role). i32Bits (getD (roleFields r) j (pos 0))) (role-at ps i pc p there l)
 
@@ -205,44 +198,29 @@ module _ (table words : List ℕ) (kept : ImageKept table words) where
   unfolding protos
   last-below i p there pc l = omega (arith, words-before (rows table) (u32s words) i enough, index-below (protosOf (rows table) (u32s words)) i pc p there l, length-all-roles)
 
-  -- so a word is executable exactly where the first field is -1
-  pub executable-in-buffer : (old : List ℕ) (i pc : ℕ) (p : Proto) → 8 * wordTotal (rows table) ≤ length old → i < length (rows table) → pc < length (getD (protos table words) i p .code)
-      → (u32At (overwrite old 0 (i32Record (roleRecords (protos table words)))) (8 * (wordTotal (take i (rows table)) + pc)) ≡ 4294967295) ↔ T (isExecutable (roleAt (getD (protos table words) i p) pc))
-  unfolding roleAt
-  executable-in-buffer old i pc p fits h l =
-      let ps = protos table words in
-      let q = getD ps i p in
-      let k = wordTotal (take i (rows table)) + pc in
-      let there : i < length ps = omega (arith, length-protos) in
-      let small : RoleBelow (2 ^ 31) (roleAt q pc) = all-getD pc Instruction tt (proto-roles-below (2 ^ 31) q (all-at i p there limited)) in
-      let e : u32At (overwrite old 0 (i32Record (roleRecords ps))) (8 * k) ≡ i32Bits (getD (roleFields (roleAt q pc)) 0 (pos 0)) =
-      ap (λ (n : ℕ). u32At (overwrite old 0 (i32Record (roleRecords ps))) n) (omega arith) ∙ role-in-buffer old i pc 0 p fits h l (omega arith) in
-      let x = executable-by-field (roleAt q pc) small in
-      (λ f. x .0 (sym e ∙ f), λ t. e ∙ x .1 t)
-
   -- a role looked up in the part of the buffer that has a prototype's records is the word's role: for every pc, past the last word too
   module _ (old : List ℕ) (i : ℕ) (p : Proto) (fits : 8 * wordTotal (rows table) ≤ length old) (h : i < length (rows table)) where
     abbrev q : Proto
     q = getD (protos table words) i p
 
     abbrev records : List ℕ
-    records = take (8 * length (q .code)) (drop (8 * wordTotal (take i (rows table))) (overwrite old 0 (i32Record (roleRecords (protos table words)))))
+    records = take (8 * length (q .code)) (drop (8 * wordTotal (take i (rows table))) (overwrite old 0 (recordsOf (flatMap roles (protos table words)))))
 
     looked-up-past : (pc : ℕ) → length (q .code) ≤ pc → roleIn records pc ≡ roleAt q pc
     unfolding roleIn roleAt
     looked-up-past pc l =
-        let none : length records / 8 ≤ pc = omega (arith, length-take (8 * length (q .code)) (drop (8 * wordTotal (take i (rows table))) (overwrite old 0 (i32Record (roleRecords (protos table words)))))) in
+        let none : length records / 8 ≤ pc = omega (arith, length-take (8 * length (q .code)) (drop (8 * wordTotal (take i (rows table))) (overwrite old 0 (recordsOf (flatMap roles (protos table words)))))) in
         (rw (le-ltb pc (length records / 8) none)) ∙ sym (List·getD-eq-default (roles q) Instruction (omega (arith, length-roles q)))
 
     looked-up-word : (pc : ℕ) → pc < length (q .code) → roleIn records pc ≡ roleAt q pc
     unfolding roleIn roleAt ownerField indexField
     looked-up-word pc l =
         let first = wordTotal (take i (rows table)) in
-        let buffer = overwrite old 0 (i32Record (roleRecords (protos table words))) in
+        let buffer = overwrite old 0 (recordsOf (flatMap roles (protos table words))) in
         let n = length (q .code) in
         let there : i < length (protos table words) = omega (arith, length-protos) in
         let last : first + (n - 1) < wordTotal (rows table) = last-below i p there (n - 1) (omega arith) in
-        let size : length records ≡ 8 * n = length-take-le (8 * n) (drop (8 * first) buffer) (omega (arith, length-drop (8 * first) buffer, length-overwrite old 0 (i32Record (roleRecords (protos table words))))) in
+        let size : length records ≡ 8 * n = length-take-le (8 * n) (drop (8 * first) buffer) (omega (arith, length-drop (8 * first) buffer, length-overwrite old 0 (recordsOf (flatMap roles (protos table words))))) in
         let inside : pc < length records / 8 = omega arith in
         let owner : u32At records (8 * pc) ≡ ownerField (roleAt q pc) =
         u32At-part buffer (8 * first) (8 * n) (8 * pc) (omega arith) ∙ ap (u32At buffer) (omega arith) ∙ role-in-buffer old i pc 0 p fits h l (omega arith) in
@@ -251,9 +229,20 @@ module _ (table words : List ℕ) (kept : ImageKept table words) where
         let small : RoleBelow (2 ^ 31) (roleAt q pc) = all-getD pc Instruction tt (proto-roles-below (2 ^ 31) q (all-at i p there limited)) in
         (rw (lt-ltb pc (length records / 8) inside, owner, index)) ∙ fields-tell (roleAt q pc) small
 
-    pub role-looked-up : (pc : ℕ) → roleIn records pc ≡ roleAt q pc
-    role-looked-up pc = go (ltb pc (length (q .code))) refl
+    looked-up : (pc : ℕ) → roleIn records pc ≡ roleAt q pc
+    looked-up pc = go (ltb pc (length (q .code))) refl
       where
         go : (b : Bool) → ltb pc (length (q .code)) ≡ b → roleIn records pc ≡ roleAt q pc
         go true e = looked-up-word pc (ltb-true pc (length (q .code)) e)
         go false e = looked-up-past pc (ltb-false pc (length (q .code)) e)
+
+-- in a buffer that an accepted call has left, a role looked up in a prototype's part of it is the word's role
+pub role-looked-up : (table words old : List ℕ) (i : ℕ) (p : Proto) → rolesRefusal table words (length old) ≡ none → i < length (rows table) → (pc : ℕ)
+    → roleIn (take (roleBytes * length (getD (protos table words) i p .code)) (drop (roleBytes * wordTotal (take i (rows table))) (rolesAfter table words old))) pc
+    ≡ roleAt (getD (protos table words) i p) pc
+unfolding rolesRefusal rolesAfter filled
+role-looked-up table words old i p e h pc =
+    let n = orElse-none (imageRefusal table words) _ e in
+    let fits : 8 * wordTotal (rows table) ≤ length old = ltb-false _ _ (refuseIf-none _ 7 0 (n .1)) in
+    ap (λ (o : Option Refused). roleIn (take (roleBytes * length (getD (protos table words) i p .code)) (drop (roleBytes * wordTotal (take i (rows table))) (filled o old (recordsOf (flatMap roles (protos table words)))))) pc) e
+    ∙ looked-up table words (image-kept table words (n .0)) old i p fits h pc

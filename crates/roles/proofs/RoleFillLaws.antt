@@ -9,9 +9,9 @@ use mathlib.Core.Option.{Option, none}
 use lib.ListN.{length, getD, take, drop, length-take, length-drop}
 use lib.Seq.{take-all, take-take, drop-drop, length-take-le}
 use borrow.Author.Tests.{ltb-false}
-use Rattle.opcodes.specs.Bytes.{u32s, i32Record, overwrite}
+use Rattle.opcodes.specs.Bytes.{u32s, overwrite}
 use Rattle.roles.specs.Table.{Row, rowBytes, fieldAt, rowAt, rows, Proto, protoOf, protosOf, protos}
-use Rattle.roles.specs.Roles.{Role, roles, roleBytes, recordsOf, roleRecords}
+use Rattle.roles.specs.Roles.{Role, roles, roleBytes, recordsOf}
 use Rattle.roles.specs.Refusals.{Refused, wordTotal, imageRefusal, rolesRefusal}
 use Rattle.roles.specs.Calls.{filled, rolesAfter}
 use Rattle.roles.specs.Contracts.{protoIn}
@@ -111,12 +111,12 @@ module _ (table words old : List ℕ) (accepted : rolesRefusal table words (leng
 
   module _ (out : List ℕ) (row first : ℕ) (v : RoleFill table words old out row first) where
     pub fill-ends : length table / rowBytes ≤ row → out ≡ rolesAfter table words old
-    unfolding rolesAfter recordsOf roleRecords filled protos
+    unfolding rolesAfter filled protos
     fill-ends h =
         let ps = protosOf (rows table) (u32s words) in
         v .written
         ∙ ap (λ (l : List Proto). overwrite old 0 (recordsOf (flatMap roles l))) (take-all row ps (omega (arith, length-protosOf (rows table) (u32s words), length-rows table)))
-        ∙ sym (ap (λ (o : Option Refused). filled o old (i32Record (roleRecords ps))) accepted)
+        ∙ sym (ap (λ (o : Option Refused). filled o old (recordsOf (flatMap roles ps))) accepted)
 
     module _ (there : row < length table / rowBytes) (n : ℕ) (stated : n ≡ fieldAt table row 1) where
       pub words-of : rowAt table row .words ≡ n

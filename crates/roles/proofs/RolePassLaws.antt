@@ -13,7 +13,7 @@ use Rattle.opcodes.specs.Bytes.{u32At, u32s, overwrite}
 use Rattle.opcodes.specs.Words.{is, CLOSURE, SETLIST}
 use Rattle.roles.specs.Table.{rowBytes, rowAt, Proto, protoOf}
 use Rattle.roles.specs.Roles.{Role, Instruction, bindingCount, hasExtra, claims, rolesFrom, roles, roleBytes, recordsOf}
-use Rattle.roles.specs.Contracts.{Tracks, protoIn, bindingsOf, companionsOf, claimed}
+use Rattle.roles.specs.Contracts.{Tracks, protoIn, childBindings, companionsOf, claimedRoles}
 use Rattle.roles.specs.declared.search.Cursor.{Cursor}
 use Rattle.roles.specs.declared.discovery.Companions.{Companions}
 use Rattle.opcodes.proofs.ByteLaws.{length-u32s, getD-u32s, length-overwrite}
@@ -46,11 +46,11 @@ unfolding hasExtra
 no-both w x c = absurd (subst T (is-not w (SETLIST ∷ []) (CLOSURE ∷ []) tt (T-and (is w (SETLIST ∷ [])) _ x .0)) c)
 
 -- what a word claims is what the code takes its companions to be
-claims-claimed : (table : List ℕ) (row pc w : ℕ) (ws : List ℕ) → claimed pc (companionsOf table row w) ≡ claims (protoIn table row ws) pc w
-unfolding companionsOf claimed bindingsOf claims bindingCount protoIn protoOf only
+claims-claimed : (table : List ℕ) (row pc w : ℕ) (ws : List ℕ) → claimedRoles pc (companionsOf table row w) ≡ claims (protoIn table row ws) pc w
+unfolding companionsOf claimedRoles childBindings claims bindingCount protoIn protoOf only
 claims-claimed table row pc w ws = go (is w (CLOSURE ∷ [])) (hasExtra w) refl refl
   where
-    go : (c x : Bool) → is w (CLOSURE ∷ []) ≡ c → hasExtra w ≡ x → claimed pc (companionsOf table row w) ≡ claims (protoIn table row ws) pc w
+    go : (c x : Bool) → is w (CLOSURE ∷ []) ≡ c → hasExtra w ≡ x → claimedRoles pc (companionsOf table row w) ≡ claims (protoIn table row ws) pc w
     go true true c x = no-both w (subst⁻¹ T x tt) (subst⁻¹ T c tt)
     go true false c x = rw (c, x, append-nil)
     go false true c x = rw (c, x)
@@ -88,7 +88,7 @@ module _ (table : List ℕ) (row : ℕ) (code : List ℕ) (stated : rowAt table 
     -- an executable word, and the companions that exist
     module _ (there : pc < length code / 4) (room : 2 * length code ≤ length old) (w : ℕ) (word : w ≡ u32At code (4 * pc)) (cs : Companions) (owns : cs ≡ companionsOf table row w) where
       abbrev mine : List Role
-      mine = take (length code / 4 - pc - 1) (claimed pc cs)
+      mine = take (length code / 4 - pc - 1) (claimedRoles pc cs)
 
       next-word : drop pc (u32s code) ≡ w ∷ drop (suc pc) (u32s code)
       next-word =
@@ -101,7 +101,7 @@ module _ (table : List ℕ) (row : ℕ) (code : List ℕ) (stated : rowAt table 
           let ws = drop (suc pc) (u32s code) in
           let cl = claims p pc w in
           let size : length ws ≡ length code / 4 - pc - 1 = omega (arith, length-drop (suc pc) (u32s code), length-u32s code) in
-          let same : cl ≡ claimed pc cs = sym (ap (claimed pc) owns ∙ claims-claimed table row pc w (u32s code)) in
+          let same : cl ≡ claimedRoles pc cs = sym (ap (claimedRoles pc) owns ∙ claims-claimed table row pc w (u32s code)) in
           let all : take (length ws) cl ≡ mine = ap₂ (λ (n : ℕ) (l : List Role). take n l) size same in
           v .left
           ∙ ap (rolesFrom p pc []) next-word
@@ -112,7 +112,7 @@ module _ (table : List ℕ) (row : ℕ) (code : List ℕ) (stated : rowAt table 
           → new ≡ overwrite m (roleBytes * (pc + 1)) (recordsOf mine) → RolePass table row code old new (pc + (1 + k)) u′
       pass-next m new k u′ r l e d =
           let rs = take pc (roles p) in
-          let most : length mine ≤ length code / 4 - pc - 1 = omega (arith, length-take (length code / 4 - pc - 1) (claimed pc cs)) in
+          let most : length mine ≤ length code / 4 - pc - 1 = omega (arith, length-take (length code / 4 - pc - 1) (claimedRoles pc cs)) in
           let here : length rs ≡ pc = length-take-le pc (roles p) (omega (arith, count)) in
           let first : m ≡ overwrite old 0 (recordsOf (rs ++ (Instruction ∷ []))) =
           records-next old out m 0 (roleBytes * pc) rs (Instruction ∷ []) (omega arith) (omega arith) (v .written) e in

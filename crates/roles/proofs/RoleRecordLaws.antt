@@ -9,7 +9,7 @@ use lib.Seq.{take-all, take-nil}
 use Rattle.opcodes.specs.Lists.{tabulate}
 use Rattle.opcodes.specs.Bytes.{i32Bits, i32Record, u32Record, overwrite}
 use Rattle.roles.specs.Roles.{Role, Instruction, ClosureBinding, SetlistExtra, roleFields, roleBytes, recordsOf}
-use Rattle.roles.specs.Contracts.{ownerField, indexField, claimed}
+use Rattle.roles.specs.Contracts.{ownerField, indexField, claimedRoles}
 use Rattle.roles.specs.declared.discovery.Companions.{Companions}
 use Rattle.roles.specs.declared.discovery.Companions.the-variants.{None, Bindings, Extra}
 use Rattle.opcodes.proofs.ListLaws.{flatMap-append, length-flatMap, length-tabulate, tabulate-next, take-tabulate}
@@ -61,27 +61,27 @@ binding-next old m new pc j room e d =
 -- so many were marked
 abbrev pub Marked : List ℕ → List ℕ → ℕ → ℕ → Companions → ℕ → Type 0
 Marked old new pc room cs n =
-    (n ≡ length (take room (claimed pc cs))) × ((new ≡ overwrite old (roleBytes * (pc + 1)) (recordsOf (take room (claimed pc cs)))) × (n ≤ room))
+    (n ≡ length (take room (claimedRoles pc cs))) × ((new ≡ overwrite old (roleBytes * (pc + 1)) (recordsOf (take room (claimedRoles pc cs)))) × (n ≤ room))
 
 module _ (old new : List ℕ) (pc room : ℕ) (cs : Companions) where
-  these : (rs : List Role) (n : ℕ) → take room (claimed pc cs) ≡ rs → n ≡ length rs → new ≡ overwrite old (roleBytes * (pc + 1)) (recordsOf rs) → Marked old new pc room cs n
-  these rs n e l d = (l ∙ ap length (sym e), (d ∙ ap (λ (x : List Role). overwrite old (roleBytes * (pc + 1)) (recordsOf x)) (sym e), omega (arith, ap length e, length-take room (claimed pc cs))))
+  these : (rs : List Role) (n : ℕ) → take room (claimedRoles pc cs) ≡ rs → n ≡ length rs → new ≡ overwrite old (roleBytes * (pc + 1)) (recordsOf rs) → Marked old new pc room cs n
+  these rs n e l d = (l ∙ ap length (sym e), (d ∙ ap (λ (x : List Role). overwrite old (roleBytes * (pc + 1)) (recordsOf x)) (sym e), omega (arith, ap length e, length-take room (claimedRoles pc cs))))
 
   pub marked-none : cs ≡ None → new ≡ old → Marked old new pc room cs 0
-  unfolding claimed
-  marked-none e d = these [] 0 (ap (λ (x : Companions). take room (claimed pc x)) e ∙ take-nil room) refl (d ∙ records-none old (roleBytes * (pc + 1)))
+  unfolding claimedRoles
+  marked-none e d = these [] 0 (ap (λ (x : Companions). take room (claimedRoles pc x)) e ∙ take-nil room) refl (d ∙ records-none old (roleBytes * (pc + 1)))
 
   pub marked-few : (n r : ℕ) → cs ≡ Bindings n → n < room → r ≡ n → new ≡ overwrite old (roleBytes * (pc + 1)) (recordsOf (tabulate n (ClosureBinding pc))) → Marked old new pc room cs r
-  unfolding claimed
+  unfolding claimedRoles
   marked-few n r e h c d =
       let f = ClosureBinding pc in
-      these (tabulate n f) r (ap (λ (x : Companions). take room (claimed pc x)) e ∙ take-all room (tabulate n f) (omega (arith, length-tabulate f n))) (c ∙ sym (length-tabulate f n)) d
+      these (tabulate n f) r (ap (λ (x : Companions). take room (claimedRoles pc x)) e ∙ take-all room (tabulate n f) (omega (arith, length-tabulate f n))) (c ∙ sym (length-tabulate f n)) d
 
   pub marked-all : (n r : ℕ) → cs ≡ Bindings n → room ≤ n → r ≡ room → new ≡ overwrite old (roleBytes * (pc + 1)) (recordsOf (tabulate room (ClosureBinding pc))) → Marked old new pc room cs r
-  unfolding claimed
+  unfolding claimedRoles
   marked-all n r e h c d =
       let f = ClosureBinding pc in
-      these (tabulate room f) r (ap (λ (x : Companions). take room (claimed pc x)) e ∙ take-tabulate f room n h) (c ∙ sym (length-tabulate f room)) d
+      these (tabulate room f) r (ap (λ (x : Companions). take room (claimedRoles pc x)) e ∙ take-tabulate f room n h) (c ∙ sym (length-tabulate f room)) d
 
-  pub marked-extra : (n : ℕ) → cs ≡ Extra → n ≡ length (take room (claimed pc Extra)) → new ≡ overwrite old (roleBytes * (pc + 1)) (recordsOf (take room (claimed pc Extra))) → Marked old new pc room cs n
-  marked-extra n e l d = these (take room (claimed pc Extra)) n (ap (λ (x : Companions). take room (claimed pc x)) e) l d
+  pub marked-extra : (n : ℕ) → cs ≡ Extra → n ≡ length (take room (claimedRoles pc Extra)) → new ≡ overwrite old (roleBytes * (pc + 1)) (recordsOf (take room (claimedRoles pc Extra))) → Marked old new pc room cs n
+  marked-extra n e l d = these (take room (claimedRoles pc Extra)) n (ap (λ (x : Companions). take room (claimedRoles pc x)) e) l d

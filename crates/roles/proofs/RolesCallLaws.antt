@@ -2,34 +2,33 @@
 use Prim.Native.Nat.{ℕ, _/_, _≤_}
 use native.Mathlib.Omega.{arith}
 use mathlib.Core.Path.{_≡_, sym, _∙_, ap}
-use mathlib.Core.List.{List}
+use mathlib.Core.List.{List, flatMap}
 use mathlib.Core.Option.{Option, none}
 use lib.ListN.{length}
-use Rattle.opcodes.specs.Bytes.{i32Record}
 use Rattle.roles.specs.Table.{rows, protos}
-use Rattle.roles.specs.Roles.{roleRecords}
+use Rattle.roles.specs.Roles.{roles, recordsOf}
 use Rattle.roles.specs.Refusals.{Refused, wordTotal, imageRefusal, rolesRefusal}
 use Rattle.roles.specs.Calls.{answer, filled, rolesAnswer, rolesAfter}
-use Rattle.roles.specs.Contracts.{refusalOf, answerOf}
+use Rattle.roles.specs.Contracts.{givenRefusal, answerOf}
 use Rattle.roles.specs.declared.refusals.Refusal.{Refusal}
 use Rattle.roles.specs.declared.refusals.Acceptance.{Acceptance}
 use Rattle.roles.specs.declared.refusals.Acceptance.the-variants as acceptance
 use Rattle.roles.specs.declared.calls.Answer.the-variants as answered
 use Rattle.roles.proofs.RefusalLaws.{orElse-none, ImageKept, image-kept}
 
-module _ (table words roles : List ℕ) (a : Acceptance) (judged : refusalOf a ≡ rolesRefusal table words (length roles)) where
+module _ (table words roleBuffer : List ℕ) (a : Acceptance) (judged : givenRefusal a ≡ rolesRefusal table words (length roleBuffer)) where
   -- a refused call answers so and writes nothing
-  pub refused-call : (r : Refusal) → a ≡ acceptance.Refused r → (answerOf (answered.Refused r) ≡ rolesAnswer table words (length roles)) × (roles ≡ rolesAfter table words roles)
-  unfolding refusalOf answerOf rolesAnswer rolesAfter answer filled
+  pub refused-call : (r : Refusal) → a ≡ acceptance.Refused r → (answerOf (answered.Refused r) ≡ rolesAnswer table words (length roleBuffer)) × (roleBuffer ≡ rolesAfter table words roleBuffer)
+  unfolding givenRefusal answerOf rolesAnswer rolesAfter answer filled
   refused-call r e =
-      let o : refusalOf (acceptance.Refused r) ≡ rolesRefusal table words (length roles) = sym (ap refusalOf e) ∙ judged in (
+      let o : givenRefusal (acceptance.Refused r) ≡ rolesRefusal table words (length roleBuffer) = sym (ap givenRefusal e) ∙ judged in (
         ap (λ (x : Option Refused). answer x (wordTotal (rows table))) o,
-        ap (λ (x : Option Refused). filled x roles (i32Record (roleRecords (protos table words)))) o,
+        ap (λ (x : Option Refused). filled x roleBuffer (recordsOf (flatMap roles (protos table words)))) o,
       )
 
-pub not-refused : (table words : List ℕ) (room : ℕ) (a : Acceptance) → refusalOf a ≡ rolesRefusal table words room → a ≡ acceptance.Accepted → rolesRefusal table words room ≡ none
-unfolding refusalOf
-not-refused table words room a judged e = sym judged ∙ ap refusalOf e
+pub not-refused : (table words : List ℕ) (room : ℕ) (a : Acceptance) → givenRefusal a ≡ rolesRefusal table words room → a ≡ acceptance.Accepted → rolesRefusal table words room ≡ none
+unfolding givenRefusal
+not-refused table words room a judged e = sym judged ∙ ap givenRefusal e
 
 module _ (table words : List ℕ) (room : ℕ) (accepted : rolesRefusal table words room ≡ none) where
   kept : ImageKept table words

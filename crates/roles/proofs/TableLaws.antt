@@ -1,16 +1,15 @@
 -- Laws of the prototype table: rows as elements, prototypes of rows, the rows below a row, and the search for a child. Assumes nothing.
-use Prim.Native.Nat.{ℕ, zero, suc, _+_, _/_, _≤_, _<_, suc-le-suc}
-use native.Mathlib.Nat.{zero-add, suc-add}
+use Prim.Native.Nat.{ℕ, zero, suc, _/_, _≤_, _<_, suc-le-suc}
 use native.Mathlib.Omega.{arith}
 use mathlib.Core.Path.{_≡_, refl, sym, _∙_, ap, subst}
 use mathlib.Core.Bool.{Bool, true, false}
 use mathlib.Core.List.{List, [], _∷_, _++_, map}
 use mathlib.Core.Option.{none, some}
-use lib.Dec.{T, eqb, ltb, ltb→lt, lt→ltb}
+use lib.Dec.{T, ltb, ltb→lt, lt→ltb}
 use lib.ListN.{length, getD, drop, getElem?, length-map}
 use lib.Seq.{drop-cons}
 use borrow.Author.Tests.{lt-ltb, le-ltb, eq-eqb, ne-eqb}
-use Rattle.opcodes.specs.Lists.{All, all-nil, all-cons, takeWhile, goOnIf, keepIf}
+use Rattle.opcodes.specs.Lists.{All, all-nil, all-cons, takeWhile, goOnIf}
 use Rattle.roles.specs.Table.{Row, rowBytes, rowAt, rows, below, children, childAt, Proto, protoOf, protosOf}
 use Rattle.opcodes.proofs.ListLaws.{length-tabulate, getD-tabulate}
 use Rattle.opcodes.proofs.AllLaws.{all-select, all-takeWhile, all-map}
@@ -92,23 +91,9 @@ pub children-deeper : (d : ℕ) (r : Row) (rs : List Row) → suc d < r .depth �
 unfolding children
 children-deeper d r rs h = rw (below-next d r rs (omega arith), ne-eqb (r .depth) (suc d) (λ e. omega arith))
 
--- past rows that are all deeper, the search goes on as it would from there
-pub children-append : (d : ℕ) {front : List Row} (back : List Row) → All (λ (r : Row). d < r .depth) front → children d (front ++ back) ≡ children d front ++ children d back
-unfolding children below
-children-append d back all-nil = refl
-children-append d back (all-cons {x} {xs} h hs) = rw (lt-ltb d (x .depth) h) (go (eqb (x .depth) (suc d)) (children-append d back hs))
-  where
-    go : (b : Bool) → children d (xs ++ back) ≡ children d xs ++ children d back → keepIf b x (children d (xs ++ back)) ≡ keepIf b x (children d xs) ++ children d back
-    go true e = ap (λ (l : List Row). x ∷ l) e
-    go false e = e
-
 -- ---- child k
 
--- element k of lists end to end, and of a list of values
-element-past : {A : Type 0} (xs ys : List A) (k : ℕ) → getElem? (xs ++ ys) (length xs + k) ≡ getElem? ys k
-element-past [] ys k = ap (getElem? ys) (zero-add k)
-element-past (x ∷ xs) ys k = ap (getElem? (x ∷ (xs ++ ys))) (suc-add (length xs) k) ∙ element-past xs ys k
-
+-- element k of a list of values
 element-value : {A : Type 0} (f : A → ℕ) (xs : List A) (k : ℕ) (x : A) → getElem? xs k ≡ some x → getD (map f xs) k 0 ≡ f x
 element-value f [] k x e = let z : _≡_ {A = ℕ} 0 1 = cc in absurd (omega arith)
 element-value f (y ∷ ys) zero x e = cc
@@ -135,12 +120,6 @@ child-next d r rs k e = ap (λ (l : List Row). getElem? l (suc k)) (children-fou
 pub child-deeper : (d : ℕ) (r : Row) (rs : List Row) (k : ℕ) → suc d < r .depth → childAt d (r ∷ rs) k ≡ childAt d rs k
 unfolding childAt
 child-deeper d r rs k h = ap (λ (l : List Row). getElem? l k) (children-deeper d r rs h)
-
--- it is resumed past rows that are all deeper: a child that is not among them is counted from there
-pub child-resume : (d : ℕ) {front : List Row} (back : List Row) (k : ℕ) → All (λ (r : Row). d < r .depth) front → childAt d (front ++ back) (length (children d front) + k) ≡ childAt d back k
-unfolding childAt
-child-resume d {front} back k h =
-    ap (λ (l : List Row). getElem? l (length (children d front) + k)) (children-append d back h) ∙ element-past (children d front) (children d back) k
 
 -- what a prototype knows of its child k: its upvalues, or that it is missing
 pub child-upvalues : (r : Row) (later : List Row) (words : List ℕ) (k : ℕ) (c : Row) → childAt (r .depth) later k ≡ some c → getD (protoOf r later words .children) k 0 ≡ c .upvalues

@@ -9,7 +9,7 @@ use lib.ListN.{length, drop}
 use borrow.Author.Tests.{ltb-false}
 use Rattle.opcodes.specs.Bytes.{i32Record}
 use Rattle.roles.specs.Table.{rows, protos}
-use Rattle.roles.specs.Roles.{roles, roleFields, roleRecords}
+use Rattle.roles.specs.Roles.{roles, roleFields, recordsOf}
 use Rattle.roles.specs.Bindings.{bindingFields}
 use Rattle.roles.specs.Refusals.{Refused, tooShort, imageRefusal, rolesRefusal, wordTotal}
 use Rattle.roles.specs.Calls.{answer, accepted, filled, rolesAfter, imageBindings, bindingsRefusal, bindingsAfter}
@@ -46,10 +46,10 @@ fits records size room e = ltb-false room (records * size) (refuseIf-none _ 8 re
 -- ---- the role buffer: two i32 a word
 
 pub roles-written : (table words old : List ℕ) → rolesRefusal table words (length old) ≡ none
-    → rolesAfter table words old ≡ i32Record (roleRecords (protos table words)) ++ drop (8 * wordTotal (rows table)) old
-unfolding rolesAfter rolesRefusal roleRecords
+    → rolesAfter table words old ≡ recordsOf (flatMap roles (protos table words)) ++ drop (8 * wordTotal (rows table)) old
+unfolding rolesAfter rolesRefusal recordsOf
 roles-written table words old e =
-    let zs = roleRecords (protos table words) in
+    let zs = flatMap roleFields (flatMap roles (protos table words)) in
     let n = orElse-none (imageRefusal table words) _ e in
     let room : 8 * wordTotal (rows table) ≤ length old = ltb-false _ _ (refuseIf-none _ 7 0 (n .1)) in
     let count : length zs ≡ 2 * wordTotal (rows table) =

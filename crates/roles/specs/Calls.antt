@@ -6,7 +6,7 @@ use mathlib.Core.Option.{Option, none, some}
 use lib.ListN.{length}
 use Rattle.opcodes.specs.Bytes.{i32Record, u32s, overwrite}
 use Rattle.roles.specs.Table.{rows, protos}
-use Rattle.roles.specs.Roles.{roleRecords}
+use Rattle.roles.specs.Roles.{roles, recordsOf}
 use Rattle.roles.specs.Bindings.{Binding, bindings, bindingFields}
 use Rattle.roles.specs.Refusals.{Refused, orElse, rolesRefusal, tooShort, wordTotal}
 
@@ -33,7 +33,7 @@ rolesAnswer table words roleLength = answer (rolesRefusal table words roleLength
 
 -- the role buffer after any of the three calls: "8 comes with roles written"
 unfoldable pub rolesAfter : List ℕ → List ℕ → List ℕ → List ℕ
-rolesAfter table words roles = filled (rolesRefusal table words (length roles)) roles (i32Record (roleRecords (protos table words)))
+rolesAfter table words old = filled (rolesRefusal table words (length old)) old (recordsOf (flatMap roles (protos table words)))
 
 -- ---- the bindings call: 1 to 8, and the role buffer as the roles call leaves it
 

@@ -41,9 +41,9 @@ refusedOf refusal.WordCountMismatch = record { number = 6; figure = 0 }
 refusedOf refusal.RoleBufferTooShort = record { number = 7; figure = 0 }
 
 -- whether an image is refused
-unfoldable pub refusalOf : Acceptance → Option Refused
-refusalOf (acceptance.Refused r) = some (refusedOf r)
-refusalOf acceptance.Accepted = none
+unfoldable pub givenRefusal : Acceptance → Option Refused
+givenRefusal (acceptance.Refused r) = some (refusedOf r)
+givenRefusal acceptance.Accepted = none
 
 -- a call's answer
 unfoldable pub answerOf : Answered → Answer ℕ
@@ -78,18 +78,18 @@ unfoldable pub protoIn : List ℕ → ℕ → List ℕ → Proto
 protoIn table i words = protoOf (rowAt table i) (drop (suc i) (rows table)) words
 
 -- a CLOSURE's companions, by the child that it names
-unfoldable pub bindingsOf : List ℕ → ℕ → ℕ → Companions
-bindingsOf table row k = Bindings (getD (protoIn table row [] .children) k 0)
+unfoldable pub childBindings : List ℕ → ℕ → ℕ → Companions
+childBindings table row k = Bindings (getD (protoIn table row [] .children) k 0)
 
 -- a word's
 unfoldable pub companionsOf : List ℕ → ℕ → ℕ → Companions
-companionsOf table row w = cond (is w (CLOSURE ∷ [])) (bindingsOf table row (fieldBx w)) (cond (hasExtra w) Extra None)
+companionsOf table row w = cond (is w (CLOSURE ∷ [])) (childBindings table row (fieldBx w)) (cond (hasExtra w) Extra None)
 
 -- the roles that they take
-unfoldable pub claimed : ℕ → Companions → List Role
-claimed pc None = []
-claimed pc (Bindings n) = tabulate n (ClosureBinding pc)
-claimed pc Extra = SetlistExtra pc ∷ []
+unfoldable pub claimedRoles : ℕ → Companions → List Role
+claimedRoles pc None = []
+claimedRoles pc (Bindings n) = tabulate n (ClosureBinding pc)
+claimedRoles pc Extra = SetlistExtra pc ∷ []
 
 -- ---- the records of a role buffer
 

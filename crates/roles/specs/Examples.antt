@@ -6,7 +6,7 @@ use mathlib.Core.Option.{Option, none}
 use lib.IntN.{ℤ, pos, negsuc}
 use Rattle.opcodes.specs.Bytes.{u32Record}
 use Rattle.roles.specs.Table.{protos}
-use Rattle.roles.specs.Roles.{roleRecords}
+use Rattle.roles.specs.Roles.{roles, roleFields}
 use Rattle.roles.specs.Bindings.{bindingFields}
 use Rattle.roles.specs.Refusals.{Refused, refuse}
 use Rattle.roles.specs.Calls.{imageBindings, bindingsRefusal}
@@ -22,7 +22,7 @@ pub record Example : Type 0 where
 
 -- what the definitions say of it
 unfoldable pub rolesOf : Example → List ℤ
-rolesOf e = roleRecords (protos (u32Record (e .rows)) (u32Record (e .words)))
+rolesOf e = flatMap roleFields (flatMap roles (protos (u32Record (e .rows)) (u32Record (e .words))))
 
 -- and of its bindings
 unfoldable pub bindingsOf : Example → List ℤ

@@ -91,10 +91,6 @@ roleFields (SetlistExtra owner) = pos owner ∷ negsuc 0 ∷ []
 abbrev pub roleBytes : ℕ
 roleBytes = 8
 
--- the records of roles, as bytes
+-- the records of roles, end to end, as bytes
 unfoldable pub recordsOf : List Role → List ℕ
 recordsOf rs = i32Record (flatMap roleFields rs)
-
--- of all words of all prototypes
-unfoldable pub roleRecords : List Proto → List ℤ
-roleRecords ps = flatMap roleFields (flatMap roles ps)

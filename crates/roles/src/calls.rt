@@ -1,5 +1,5 @@
 // The roles call.
-use crate::discovery::discover_proto;
+use crate::discovery::discover_roles_lua51;
 use crate::refusals::Acceptance;
 use crate::refusals::Refusal;
 use crate::refusals::check_roles;
@@ -15,7 +15,7 @@ ghost use Rattle.opcodes.specs.Bytes.{overwrite, u32s};
 ghost use Rattle.roles.specs.Calls.{rolesAfter, rolesAnswer};
 ghost use Rattle.roles.specs.Contracts.{answerOf, protoIn};
 ghost use Rattle.roles.specs.Refusals.{rolesRefusal};
-ghost use Rattle.roles.specs.Roles.{recordsOf, roleBytes, roles as rolesOf};
+ghost use Rattle.roles.specs.Roles.{recordsOf, roleBytes, roles as protoRoles};
 ghost use Rattle.roles.specs.Table.{rowAt, rowBytes};
 
 // A call's answer: a refusal, or the number of its records.
@@ -25,7 +25,7 @@ pub enum Answer {
 }
 
 // Writes the roles of all words to the front of a buffer, two i32 a word, and answers their number. A refused call writes nothing.
-pub fn discover_roles(protos: &[u8], words: &[u8], roles: &mut [u8]) -> Answer
+pub fn write_roles(protos: &[u8], words: &[u8], roles: &mut [u8]) -> Answer
     ensures { λ r. ⌜ answerOf r ≡ rolesAnswer (now (protos .entry)) (now (words .entry)) (length (now (roles .entry))) ⌝ }
     ensures { λ _. ⌜ now (roles .exit) ≡ rolesAfter (now (protos .entry)) (now (words .entry)) (now (roles .entry)) ⌝ }
 {
@@ -57,9 +57,9 @@ fn fill_row(protos: &[u8], words: &[u8], roles: &mut [u8], row: usize, first: us
     requires { ⌜ (rowBytes * row + rowBytes ≤ length (now protos)) × (length (now protos) / rowBytes ≤ 16384) ⌝ }
     requires { ⌜ first + rowAt (now protos) row .words ≡ next ⌝ }
     requires { ⌜ (4 * next ≤ 4194304) × (4 * next ≤ length (now words)) × (roleBytes * next ≤ length (now roles)) ⌝ }
-    ensures { λ _. ⌜ now (roles .exit) ≡ overwrite (now (roles .entry)) (roleBytes * first) (recordsOf (rolesOf (protoIn (now (protos .entry)) row (drop first (u32s (now (words .entry))))))) ⌝ }
+    ensures { λ _. ⌜ now (roles .exit) ≡ overwrite (now (roles .entry)) (roleBytes * first) (recordsOf (protoRoles (protoIn (now (protos .entry)) row (drop first (u32s (now (words .entry))))))) ⌝ }
 {
-    discover_proto(
+    discover_roles_lua51(
         protos,
         row,
         &words[4 * first..4 * next],

@@ -15,7 +15,7 @@ ghost use Prim.Native.Nat.{_+_, _*_, _/_, _<_, _≤_};
 ghost use lib.ListN.{length, take};
 ghost use Rattle.opcodes.specs.Bytes.{overwrite, u32s};
 ghost use Rattle.opcodes.specs.Lists.{tabulate};
-ghost use Rattle.roles.specs.Contracts.{Tracks, bindingsOf, claimed, companionsOf, protoIn};
+ghost use Rattle.roles.specs.Contracts.{Tracks, childBindings, claimedRoles, companionsOf, protoIn};
 ghost use Rattle.roles.specs.declared.discovery.Companions.the-variants.{Extra, None};
 ghost use Rattle.roles.specs.Roles.{ClosureBinding, recordsOf, roleBytes, roles};
 ghost use Rattle.roles.specs.Table.{rowAt, rowBytes};
@@ -41,7 +41,7 @@ pub struct Claim {
 
 // Writes the roles of a row's words to the front of its part of the buffer. Each word is looked at once: an owner marks its companions, as
 // far as they exist, and the next word to be looked at is the one after them.
-pub fn discover_proto(protos: &[u8], row: usize, code: &[u8], out: &mut [u8])
+pub fn discover_roles_lua51(protos: &[u8], row: usize, code: &[u8], out: &mut [u8])
     requires { ⌜ (rowBytes * row + rowBytes ≤ length (now protos)) × (length (now protos) / rowBytes ≤ 16384) ⌝ }
     requires { ⌜ rowAt (now protos) row .words ≡ length (now code) / 4 ⌝ }
     requires { ⌜ (length (now code) ≤ 4194304) × (2 * length (now code) ≤ length (now out)) ⌝ }
@@ -87,7 +87,7 @@ fn claim_of(protos: &[u8], row: usize, cursor: Cursor, word: u32) -> Claim
 fn claim_child(protos: &[u8], row: usize, cursor: Cursor, k: u32) -> Claim
     requires { ⌜ rowBytes * row + rowBytes ≤ length (now protos) ⌝ }
     requires { ⌜ Tracks (now protos) row cursor ⌝ }
-    ensures { λ r. ⌜ r .companions ≡ bindingsOf (now (protos .entry)) row k ⌝ }
+    ensures { λ r. ⌜ r .companions ≡ childBindings (now (protos .entry)) row k ⌝ }
     ensures { λ r. ⌜ Tracks (now (protos .entry)) row (r .cursor) ⌝ }
 {
     if cursor.end <= k {
@@ -132,8 +132,8 @@ fn claim_extra(cursor: Cursor, c: u16) -> Claim
 // Marks the companions of the owner at pc, of which at most `room` exist. Answers how many.
 fn mark(out: &mut [u8], pc: usize, room: usize, companions: Companions) -> usize
     requires { ⌜ (pc + room < 1048576) × (roleBytes * (pc + 1 + room) ≤ length (now out)) ⌝ }
-    ensures { λ r. ⌜ r ≡ length (take room (claimed pc companions)) ⌝ }
-    ensures { λ _. ⌜ now (out .exit) ≡ overwrite (now (out .entry)) (roleBytes * (pc + 1)) (recordsOf (take room (claimed pc companions))) ⌝ }
+    ensures { λ r. ⌜ r ≡ length (take room (claimedRoles pc companions)) ⌝ }
+    ensures { λ _. ⌜ now (out .exit) ≡ overwrite (now (out .entry)) (roleBytes * (pc + 1)) (recordsOf (take room (claimedRoles pc companions))) ⌝ }
     ensures { λ r. ⌜ r ≤ room ⌝ }
 {
     match companions {
@@ -170,8 +170,8 @@ fn mark_bindings(out: &mut [u8], pc: usize, count: usize) -> usize
 // Marks the extra word of the SETLIST at pc, where it exists.
 fn mark_extra(out: &mut [u8], pc: usize, room: usize) -> usize
     requires { ⌜ (pc + room < 1048576) × (roleBytes * (pc + 1 + room) ≤ length (now out)) ⌝ }
-    ensures { λ r. ⌜ r ≡ length (take room (claimed pc Extra)) ⌝ }
-    ensures { λ _. ⌜ now (out .exit) ≡ overwrite (now (out .entry)) (roleBytes * (pc + 1)) (recordsOf (take room (claimed pc Extra))) ⌝ }
+    ensures { λ r. ⌜ r ≡ length (take room (claimedRoles pc Extra)) ⌝ }
+    ensures { λ _. ⌜ now (out .exit) ≡ overwrite (now (out .entry)) (roleBytes * (pc + 1)) (recordsOf (take room (claimedRoles pc Extra))) ⌝ }
 {
     if room == 0 {
         return 0;

@@ -11,7 +11,7 @@ ghost use mathlib.Core.Path.{_≡_};
 ghost use Prim.Native.Nat.{_+_, _*_, _/_, _≤_};
 ghost use lib.Dec.{ltb};
 ghost use lib.ListN.{length};
-ghost use Rattle.roles.specs.Contracts.{refusalOf};
+ghost use Rattle.roles.specs.Contracts.{givenRefusal};
 ghost use Rattle.roles.specs.Refusals.{badDepth, badField, depthFits, fieldsFit, imageRefusal, rolesRefusal, wordTotal};
 ghost use Rattle.roles.specs.Table.{rowAt, rowBytes, rows};
 
@@ -46,7 +46,7 @@ pub enum Acceptance {
 
 // 1 to 7, for a role buffer of so many bytes.
 pub fn check_roles(protos: &[u8], words: &[u8], room: usize) -> Acceptance
-    ensures { λ r. ⌜ refusalOf r ≡ rolesRefusal (now (protos .entry)) (now (words .entry)) room ⌝ }
+    ensures { λ r. ⌜ givenRefusal r ≡ rolesRefusal (now (protos .entry)) (now (words .entry)) room ⌝ }
 {
     if let Acceptance::Refused(refusal) = check_image(protos, words) {
         return Acceptance::Refused(refusal);
@@ -59,7 +59,7 @@ pub fn check_roles(protos: &[u8], words: &[u8], room: usize) -> Acceptance
 
 // 1 to 6.
 pub fn check_image(protos: &[u8], words: &[u8]) -> Acceptance
-    ensures { λ r. ⌜ refusalOf r ≡ imageRefusal (now (protos .entry)) (now (words .entry)) ⌝ }
+    ensures { λ r. ⌜ givenRefusal r ≡ imageRefusal (now (protos .entry)) (now (words .entry)) ⌝ }
 {
     if protos.len() == 0 {
         return Acceptance::Refused(Refusal::NoProtos);
@@ -94,7 +94,7 @@ fn is_too_large(rows: usize, bytes: usize) -> bool
 // 4: every depth in its bounds.
 fn check_depths(protos: &[u8]) -> Acceptance
     requires { ⌜ length (now protos) / rowBytes ≤ 16384 ⌝ }
-    ensures { λ r. ⌜ refusalOf r ≡ badDepth 0 0 (rows (now (protos .entry))) ⌝ }
+    ensures { λ r. ⌜ givenRefusal r ≡ badDepth 0 0 (rows (now (protos .entry))) ⌝ }
 {
     let rows = protos.len() / ROW_BYTES;
     let mut least = 0;
@@ -129,7 +129,7 @@ fn depth_fits(protos: &[u8], row: usize, least: u32, most: u32) -> bool
 // 5: constants, upvalues and stack of every row within their limits.
 fn check_fields(protos: &[u8]) -> Acceptance
     requires { ⌜ length (now protos) / rowBytes ≤ 16384 ⌝ }
-    ensures { λ r. ⌜ refusalOf r ≡ badField (rows (now (protos .entry))) ⌝ }
+    ensures { λ r. ⌜ givenRefusal r ≡ badField (rows (now (protos .entry))) ⌝ }
 {
     let rows = protos.len() / ROW_BYTES;
     let mut row = 0;

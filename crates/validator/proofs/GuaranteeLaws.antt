@@ -7,7 +7,7 @@ use mathlib.Core.List.{List, _++_, flatMap}
 use lib.ListN.{length, drop}
 use Rattle.opcodes.specs.Bytes.{i32Record}
 use Rattle.roles.specs.Table.{rows}
-use Rattle.roles.specs.Roles.{roleRecords}
+use Rattle.roles.specs.Roles.{roles, recordsOf}
 use Rattle.roles.specs.Refusals.{Refused, rolesRefusal, wordTotal}
 use Rattle.roles.specs.Calls.{accepted, refused, rolesAfter}
 use Rattle.validator.specs.Walk.{Verdict, diagnosticFields}
@@ -44,27 +44,27 @@ check-guaranteed i roleLength diagnosticLength c e =
     }
 
 -- a refused check call leaves its buffers, but 8 comes with the roles written
-pub check-untouched : (i : Image) (roles buffer : List ℕ) (r : Refused) → checkAnswer i (length roles) (length buffer) ≡ refused r
-    → (diagnosticsAfter i (length roles) buffer ≡ buffer) × ((r .number ≡ 8) ⊎ (rolesAfter (i .table) (i .words) roles ≡ roles))
+pub check-untouched : (i : Image) (roleBuffer buffer : List ℕ) (r : Refused) → checkAnswer i (length roleBuffer) (length buffer) ≡ refused r
+    → (diagnosticsAfter i (length roleBuffer) buffer ≡ buffer) × ((r .number ≡ 8) ⊎ (rolesAfter (i .table) (i .words) roleBuffer ≡ roleBuffer))
 unfolding checkAnswer checkRefusal diagnosticsAfter rolesAfter
-check-untouched i roles buffer r e = (
-  refused-leaves (checkRefusal i (length roles) (length buffer)) _ r buffer _ e,
-  refused-before (rolesRefusal (i .table) (i .words) (length roles)) _ _ (length buffer) _ r roles _ e,
+check-untouched i roleBuffer buffer r e = (
+  refused-leaves (checkRefusal i (length roleBuffer) (length buffer)) _ r buffer _ e,
+  refused-before (rolesRefusal (i .table) (i .words) (length roleBuffer)) _ _ (length buffer) _ r roleBuffer _ e,
 )
 
 -- an accepted one leaves its records in front of both buffers
-pub check-written : (i : Image) (roles buffer : List ℕ) (c : Checked) → checkAnswer i (length roles) (length buffer) ≡ accepted c
-    → (diagnosticsAfter i (length roles) buffer ≡ i32Record (flatMap diagnosticFields (diagnostics i)) ++ drop (16 * length (diagnostics i)) buffer)
-    × (rolesAfter (i .table) (i .words) roles ≡ i32Record (roleRecords (imageProtos i)) ++ drop (8 * wordTotal (rows (i .table))) roles)
+pub check-written : (i : Image) (roleBuffer buffer : List ℕ) (c : Checked) → checkAnswer i (length roleBuffer) (length buffer) ≡ accepted c
+    → (diagnosticsAfter i (length roleBuffer) buffer ≡ i32Record (flatMap diagnosticFields (diagnostics i)) ++ drop (16 * length (diagnostics i)) buffer)
+    × (rolesAfter (i .table) (i .words) roleBuffer ≡ recordsOf (flatMap roles (imageProtos i)) ++ drop (8 * wordTotal (rows (i .table))) roleBuffer)
 unfolding checkAnswer checkRefusal diagnosticsAfter diagnosticFields imageProtos
-check-written i roles buffer c e =
+check-written i roleBuffer buffer c e =
     let ds = diagnostics i in
     let zs = flatMap diagnosticFields ds in
-    let n = accepted-none (checkRefusal i (length roles) (length buffer)) (checked i) c e in
-    let o = orElse-none (rolesRefusal (i .table) (i .words) (length roles)) _ n in
+    let n = accepted-none (checkRefusal i (length roleBuffer) (length buffer)) (checked i) c e in
+    let o = orElse-none (rolesRefusal (i .table) (i .words) (length roleBuffer)) _ n in
     let room = fits (length ds) _ (length buffer) (o .1) in
     let count : length zs ≡ 4 * length ds = length-flatMap diagnosticFields 4 (λ d. refl) ds in
     let size : 4 * length zs ≡ 16 * length ds = omega arith in (
-      written (checkRefusal i (length roles) (length buffer)) buffer zs n (omega arith) ∙ ap (λ (k : ℕ). i32Record zs ++ drop k buffer) size,
-      roles-written (i .table) (i .words) roles (o .0),
+      written (checkRefusal i (length roleBuffer) (length buffer)) buffer zs n (omega arith) ∙ ap (λ (k : ℕ). i32Record zs ++ drop k buffer) size,
+      roles-written (i .table) (i .words) roleBuffer (o .0),
     )

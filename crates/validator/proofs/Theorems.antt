@@ -12,7 +12,7 @@ use lib.ListN.{length, getD, drop, set}
 use Rattle.opcodes.specs.Lists.{All, Some, only}
 use Rattle.opcodes.specs.Words.{is, B, C}
 use Rattle.roles.specs.Table.{Row, rows, Proto, protos}
-use Rattle.roles.specs.Roles.{Instruction, isExecutable, Executable, bindingCount, hasExtra, claims, rolesFrom, roles, roleAt, wordAt, executableAt, owned, existing, companions, isTruncated, bindingWords, roleRecords}
+use Rattle.roles.specs.Roles.{Instruction, isExecutable, Executable, bindingCount, hasExtra, claims, rolesFrom, roles, roleAt, wordAt, executableAt, owned, existing, companions, isTruncated, bindingWords, recordsOf}
 use Rattle.opcodes.specs.Bytes.{i32Record}
 use Rattle.roles.specs.Bindings.{bindingFields}
 use Rattle.roles.specs.Refusals.{Refused, wordTotal}
@@ -127,36 +127,36 @@ demand-3 i roleLength diagnosticLength c e = check-guaranteed i roleLength diagn
 
 -- ---- "Trays stay untouched, but 8 comes with roles written": of each call, for any table, words and buffers
 
-pub roles-call-refused : (table words roles : List ℕ) (r : Refused) → rolesAnswer table words (length roles) ≡ refused r → rolesAfter table words roles ≡ roles
-roles-call-refused table words roles r e = roles-untouched table words roles r e
+pub roles-call-refused : (table words roleBuffer : List ℕ) (r : Refused) → rolesAnswer table words (length roleBuffer) ≡ refused r → rolesAfter table words roleBuffer ≡ roleBuffer
+roles-call-refused table words roleBuffer r e = roles-untouched table words roleBuffer r e
 
-pub bindings-call-refused : (table words roles bindings : List ℕ) (r : Refused) → bindingsAnswer table words (length roles) (length bindings) ≡ refused r
-    → (bindingsAfter table words (length roles) bindings ≡ bindings) × ((r .number ≡ 8) ⊎ (rolesAfter table words roles ≡ roles))
-bindings-call-refused table words roles bindings r e = bindings-untouched table words roles bindings r e
+pub bindings-call-refused : (table words roleBuffer bindings : List ℕ) (r : Refused) → bindingsAnswer table words (length roleBuffer) (length bindings) ≡ refused r
+    → (bindingsAfter table words (length roleBuffer) bindings ≡ bindings) × ((r .number ≡ 8) ⊎ (rolesAfter table words roleBuffer ≡ roleBuffer))
+bindings-call-refused table words roleBuffer bindings r e = bindings-untouched table words roleBuffer bindings r e
 
-pub check-call-refused : (i : Image) (roles buffer : List ℕ) (r : Refused) → checkAnswer i (length roles) (length buffer) ≡ refused r
-    → (diagnosticsAfter i (length roles) buffer ≡ buffer) × ((r .number ≡ 8) ⊎ (rolesAfter (i .table) (i .words) roles ≡ roles))
-check-call-refused i roles buffer r e = check-untouched i roles buffer r e
+pub check-call-refused : (i : Image) (roleBuffer buffer : List ℕ) (r : Refused) → checkAnswer i (length roleBuffer) (length buffer) ≡ refused r
+    → (diagnosticsAfter i (length roleBuffer) buffer ≡ buffer) × ((r .number ≡ 8) ⊎ (rolesAfter (i .table) (i .words) roleBuffer ≡ roleBuffer))
+check-call-refused i roleBuffer buffer r e = check-untouched i roleBuffer buffer r e
 
 -- ---- an accepted call's records fit and stand in front of its buffers, and "what lies past the records is unchanged"
 
-pub roles-call-accepted : (table words roles : List ℕ) (n : ℕ) → rolesAnswer table words (length roles) ≡ accepted n
-    → rolesAfter table words roles ≡ i32Record (roleRecords (protos table words)) ++ drop (8 * wordTotal (rows table)) roles
+pub roles-call-accepted : (table words roleBuffer : List ℕ) (n : ℕ) → rolesAnswer table words (length roleBuffer) ≡ accepted n
+    → rolesAfter table words roleBuffer ≡ recordsOf (flatMap roles (protos table words)) ++ drop (8 * wordTotal (rows table)) roleBuffer
 unfolding rolesAnswer
-roles-call-accepted table words roles n e = roles-written table words roles (accepted-none _ _ n e)
+roles-call-accepted table words roleBuffer n e = roles-written table words roleBuffer (accepted-none _ _ n e)
 
-pub bindings-call-accepted : (table words roles bindings : List ℕ) (n : ℕ) → bindingsAnswer table words (length roles) (length bindings) ≡ accepted n
-    → (bindingsAfter table words (length roles) bindings ≡ i32Record (flatMap bindingFields (imageBindings table words)) ++ drop (12 * length (imageBindings table words)) bindings)
-    × (rolesAfter table words roles ≡ i32Record (roleRecords (protos table words)) ++ drop (8 * wordTotal (rows table)) roles)
+pub bindings-call-accepted : (table words roleBuffer bindings : List ℕ) (n : ℕ) → bindingsAnswer table words (length roleBuffer) (length bindings) ≡ accepted n
+    → (bindingsAfter table words (length roleBuffer) bindings ≡ i32Record (flatMap bindingFields (imageBindings table words)) ++ drop (12 * length (imageBindings table words)) bindings)
+    × (rolesAfter table words roleBuffer ≡ recordsOf (flatMap roles (protos table words)) ++ drop (8 * wordTotal (rows table)) roleBuffer)
 unfolding bindingsAnswer bindingsRefusal
-bindings-call-accepted table words roles bindings n e =
-    let none = accepted-none (bindingsRefusal table words (length roles) (length bindings)) _ n e in
-    (bindings-written table words bindings (length roles) none, roles-written table words roles (orElse-none _ _ none .0))
+bindings-call-accepted table words roleBuffer bindings n e =
+    let none = accepted-none (bindingsRefusal table words (length roleBuffer) (length bindings)) _ n e in
+    (bindings-written table words bindings (length roleBuffer) none, roles-written table words roleBuffer (orElse-none _ _ none .0))
 
-pub check-call-accepted : (i : Image) (roles buffer : List ℕ) (c : Checked) → checkAnswer i (length roles) (length buffer) ≡ accepted c
-    → (diagnosticsAfter i (length roles) buffer ≡ i32Record (flatMap diagnosticFields (diagnostics i)) ++ drop (16 * length (diagnostics i)) buffer)
-    × (rolesAfter (i .table) (i .words) roles ≡ i32Record (roleRecords (imageProtos i)) ++ drop (8 * wordTotal (rows (i .table))) roles)
-check-call-accepted i roles buffer c e = check-written i roles buffer c e
+pub check-call-accepted : (i : Image) (roleBuffer buffer : List ℕ) (c : Checked) → checkAnswer i (length roleBuffer) (length buffer) ≡ accepted c
+    → (diagnosticsAfter i (length roleBuffer) buffer ≡ i32Record (flatMap diagnosticFields (diagnostics i)) ++ drop (16 * length (diagnostics i)) buffer)
+    × (rolesAfter (i .table) (i .words) roleBuffer ≡ recordsOf (flatMap roles (imageProtos i)) ++ drop (8 * wordTotal (rows (i .table))) roleBuffer)
+check-call-accepted i roleBuffer buffer c e = check-written i roleBuffer buffer c e
 
 -- ---- the claims are not empty: for each rule a prototype whose first word is executable and breaks it. (For each verdict the table has an image)
 

@@ -5,7 +5,7 @@ use Rattle.roles.proofs.RoleFillLaws.{part-length, part-room, part-writ
 use Rattle.roles.proofs.calls.fill_row.Statement.{statement}
 use Rattle.roles.proofs.calls.fill_row.Tie as tie
 
-requires : tie.Need-discover-proto-requires
+requires : tie.Need-discover-roles-lua51-requires
 requires c κs =
     let a = c .before .before .before .before .before .args in
     let pre = c .before .before .before .before .before .pre in
@@ -15,7 +15,7 @@ requires c κs =
 returns : tie.Need-returns
 returns c =
     let pre = c .before .before .before .before .before .before .before .before .pre in
-    part-written _ _ _ _ _ (pre .1 .0) (pre .1 .1 .1) _ _ (pre .1 .1 .2) (c .before .before .discover-proto .ensures)
+    part-written _ _ _ _ _ (pre .1 .0) (pre .1 .1 .1) _ _ (pre .1 .1 .2) (c .before .before .discover-roles-lua51 .ensures)
 
 pub fill-row-spec : {M : Type 1} → statement M
 fill-row-spec =

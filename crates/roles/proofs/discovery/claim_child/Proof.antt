@@ -2,7 +2,7 @@
 use native.Mathlib.Omega.{arith}
 use mathlib.Core.Path.{sym, _∙_, ap}
 use borrow.Author.Needs.{needs}
-use Rattle.roles.specs.Contracts.{bindingsOf}
+use Rattle.roles.specs.Contracts.{childBindings}
 use Rattle.roles.specs.declared.discovery.Companions.the-variants.{Bindings}
 use Rattle.roles.proofs.SearchLaws.{found-child, missing-bound, past-end, moved, missed}
 use Rattle.roles.proofs.discovery.claim_child.Statement.{statement}
@@ -14,17 +14,17 @@ field-requires c κs =
     (omega (arith, f .there), omega arith)
 
 past : tie.Need-returns
-unfolding bindingsOf
+unfolding childBindings
 past c = let pre = c .before .before .before .pre in (ap Bindings (past-end _ _ _ _ (pre .1) (c .if1 .taken)), pre .1)
 
 missing : tie.Need-returns-2
-unfolding bindingsOf
+unfolding childBindings
 missing c =
     let e = sym (c .enum-told .given .1) ∙ c .before .before .find .ensures in
     (ap Bindings (missing-bound _ _ _ e), missed _ _ _ _ (c .before .before .before .before .before .before .pre .1) e)
 
 found : tie.Need-returns-3
-unfolding bindingsOf
+unfolding childBindings
 found c =
     let b = c .before .before .before .before in
     let f = found-child _ _ _ _ (sym (c .before .before .child .given .1) ∙ b .find .ensures) in

@@ -6,17 +6,17 @@ use mathlib.Core.List.{[], _∷_}
 use lib.Seq.{take-all}
 use borrow.Author.Needs.{needs}
 use Rattle.roles.specs.Roles.{SetlistExtra}
-use Rattle.roles.specs.Contracts.{claimed}
+use Rattle.roles.specs.Contracts.{claimedRoles}
 use Rattle.roles.proofs.RoleRecordLaws.{records-none}
 use Rattle.roles.proofs.discovery.mark_extra.Statement.{statement}
 use Rattle.roles.proofs.discovery.mark_extra.Tie as tie
 
 none : tie.Need-returns
-unfolding claimed
+unfolding claimedRoles
 none c = rw (c .if1 .taken) (refl, records-none _ _)
 
 one : tie.Need-returns-2
-unfolding claimed
+unfolding claimedRoles
 one c =
     let a = c .before .before .before .before .before .before .args in
     let h : 1 ≤ a .room = omega arith in

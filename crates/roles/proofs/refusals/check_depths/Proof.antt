@@ -5,7 +5,7 @@ use mathlib.Core.Path.{_≡_, refl, sym}
 use lib.ListN.{length}
 use Rattle.roles.specs.Table.{rowBytes}
 use Rattle.roles.specs.Refusals.{refuse}
-use Rattle.roles.specs.Contracts.{refusedOf, refusalOf}
+use Rattle.roles.specs.Contracts.{refusedOf, givenRefusal}
 use Rattle.roles.proofs.RowCheckLaws.{DepthsLeft, depths-end, depth-refused, depth-low, depth-next}
 use Rattle.roles.proofs.refusals.check_depths.Statement.{statement}
 use Rattle.roles.proofs.refusals.check_depths.Tie as tie
@@ -17,7 +17,7 @@ abbrev μ : tie.MeasureT-loop
 μ protos rows least₀ most₀ row₀ least most row = rows - row
 
 returns : tie.Need-returns Inv μ
-unfolding refuse refusedOf refusalOf
+unfolding refuse refusedOf givenRefusal
 returns c = sym (depth-refused _ _ _ _ (c .before .before .before .loop .inv .0) (omega arith) _ (c .before .depth-fits .ensures) (c .if1 .taken))
 
 add-most : tie.Need-add-most Inv μ
@@ -32,7 +32,7 @@ loop-again c = (
 )
 
 end : tie.Need-returns-2 Inv μ
-unfolding refusalOf
+unfolding givenRefusal
 end c = sym (depths-end _ _ _ _ (c .before .loop .inv .0) (omega arith))
 
 pub check-depths-spec : {M : Type 1} → statement M

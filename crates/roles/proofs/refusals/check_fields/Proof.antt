@@ -5,7 +5,7 @@ use mathlib.Core.Path.{_≡_, refl, sym}
 use lib.ListN.{length}
 use Rattle.roles.specs.Table.{rowBytes}
 use Rattle.roles.specs.Refusals.{refuse}
-use Rattle.roles.specs.Contracts.{refusedOf, refusalOf}
+use Rattle.roles.specs.Contracts.{refusedOf, givenRefusal}
 use Rattle.roles.proofs.RowCheckLaws.{FieldsLeft, fields-end, field-refused, field-next}
 use Rattle.roles.proofs.refusals.check_fields.Statement.{statement}
 use Rattle.roles.proofs.refusals.check_fields.Tie as tie
@@ -17,14 +17,14 @@ abbrev μ : tie.MeasureT-loop
 μ protos rows row₀ row = rows - row
 
 returns : tie.Need-returns Inv μ
-unfolding refuse refusedOf refusalOf
+unfolding refuse refusedOf givenRefusal
 returns c = sym (field-refused _ _ (c .before .before .before .loop .inv .0) (omega arith) _ (c .before .fields-fit .ensures) (c .if1 .taken))
 
 loop-again : tie.Need-loop-again Inv μ
 loop-again c = (field-next _ _ (c .before .before .before .loop .inv .0) (omega arith) _ (c .before .fields-fit .ensures) (c .if1 .left), omega arith)
 
 end : tie.Need-returns-2 Inv μ
-unfolding refusalOf
+unfolding givenRefusal
 end c = sym (fields-end _ _ (c .before .loop .inv .0) (omega arith))
 
 pub check-fields-spec : {M : Type 1} → statement M

@@ -1,21 +1,21 @@
 -- `refusals::check_image` meets its contract. Assumes nothing.
 use borrow.Author.Needs.{needs}
 use Rattle.roles.specs.Refusals.{refuse}
-use Rattle.roles.specs.Contracts.{refusedOf, refusalOf}
+use Rattle.roles.specs.Contracts.{refusedOf, givenRefusal}
 use Rattle.roles.proofs.ImageCheckLaws as laws
 use Rattle.roles.proofs.refusals.check_image.Statement.{statement}
 use Rattle.roles.proofs.refusals.check_image.Tie as tie
 
 no-protos : tie.Need-returns
-unfolding refuse refusedOf refusalOf
+unfolding refuse refusedOf givenRefusal
 no-protos c = laws.no-protos _ _ (c .if1 .taken)
 
 partial-row : tie.Need-returns-2
-unfolding refuse refusedOf refusalOf
+unfolding refuse refusedOf givenRefusal
 partial-row c = laws.partial-row _ _ (c .before .if1 .left) (c .if2 .taken)
 
 too-large : tie.Need-returns-3
-unfolding refuse refusedOf refusalOf
+unfolding refuse refusedOf givenRefusal
 too-large c =
     let s = laws.sized _ _ _ (c .before .before .before .if1 .left) (c .before .before .if2 .left) (c .before .is-too-large .ensures) in
     laws.too-large _ _ _ s (c .if3 .taken)
@@ -34,7 +34,7 @@ bad-field c =
     laws.bad-field _ _ _ s (b .before .if3 .left) _ (b .check-depths .ensures) (f .before .enum-told .given .1) _ (f .check-fields .ensures) _ (c .before .refusal2 .given .1)
 
 mismatch : tie.Need-returns-6
-unfolding refuse refusedOf refusalOf
+unfolding refuse refusedOf givenRefusal
 mismatch c =
     let f = c .before .before .before .before in
     let b = f .before .before .before in
@@ -42,7 +42,7 @@ mismatch c =
     laws.mismatch _ _ _ s (b .before .if3 .left) _ (b .check-depths .ensures) (f .before .enum-told .given .1) _ (f .check-fields .ensures) (c .before .before .enum-told2 .given .1) _ (c .before .word-total .ensures .0) (c .if4 .taken)
 
 accepted : tie.Need-returns-7
-unfolding refusalOf
+unfolding givenRefusal
 accepted c =
     let f = c .before .before .before .before in
     let b = f .before .before .before in

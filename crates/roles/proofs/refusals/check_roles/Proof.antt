@@ -1,7 +1,7 @@
 -- `refusals::check_roles` meets its contract. Assumes nothing.
 use borrow.Author.Needs.{needs}
 use Rattle.roles.specs.Refusals.{refuse}
-use Rattle.roles.specs.Contracts.{refusedOf, refusalOf}
+use Rattle.roles.specs.Contracts.{refusedOf, givenRefusal}
 use Rattle.roles.proofs.ImageCheckLaws.{bad-image, too-short, fits-roles}
 use Rattle.roles.proofs.refusals.check_roles.Statement.{statement}
 use Rattle.roles.proofs.refusals.check_roles.Tie as tie
@@ -10,11 +10,11 @@ image : tie.Need-returns
 image c = bad-image _ _ _ _ (c .before .before .before .check-image .ensures) _ (c .before .refusal .given .1)
 
 short : tie.Need-returns-2
-unfolding refuse refusedOf refusalOf
+unfolding refuse refusedOf givenRefusal
 short c = too-short _ _ _ _ (c .before .before .before .check-image .ensures) (c .before .enum-told .given .1) (c .if1 .taken)
 
 accepted : tie.Need-returns-3
-unfolding refusalOf
+unfolding givenRefusal
 accepted c = fits-roles _ _ _ _ (c .before .before .before .check-image .ensures) (c .before .enum-told .given .1) (c .if1 .left)
 
 pub check-roles-spec : {M : Type 1} → statement M

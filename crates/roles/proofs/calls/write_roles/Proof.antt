@@ -1,9 +1,9 @@
--- `calls::discover_roles` meets its contract. Assumes nothing.
+-- `calls::write_roles` meets its contract. Assumes nothing.
 use native.Mathlib.Omega.{arith}
 use borrow.Author.Needs.{needs}
 use Rattle.roles.proofs.RolesCallLaws.{refused-call, not-refused, few-words, accepted-call}
-use Rattle.roles.proofs.calls.discover_roles.Statement.{statement}
-use Rattle.roles.proofs.calls.discover_roles.Tie as tie
+use Rattle.roles.proofs.calls.write_roles.Statement.{statement}
+use Rattle.roles.proofs.calls.write_roles.Tie as tie
 
 refused : tie.Need-returns
 refused c = refused-call _ _ _ _ (c .before .before .before .check-roles .ensures) _ (c .before .refusal .given .1)
@@ -22,8 +22,8 @@ accepted c =
     let b = c .before .before .before .before in
     (accepted-call _ _ _ (not-refused _ _ _ _ (b .before .before .check-roles .ensures) (b .enum-told .given .1)), c .before .before .fill-roles .ensures)
 
-pub discover-roles-spec : {M : Type 1} → statement M
-discover-roles-spec =
+pub write-roles-spec : {M : Type 1} → statement M
+write-roles-spec =
     tie.close
     (tie.spec
     (λ c κs. search needs)

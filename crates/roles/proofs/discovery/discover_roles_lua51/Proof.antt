@@ -1,11 +1,11 @@
--- `discovery::discover_proto` meets its contract. Assumes nothing.
+-- `discovery::discover_roles_lua51` meets its contract. Assumes nothing.
 use Prim.Native.Nat.{_-_, _/_}
 use native.Mathlib.Omega.{arith}
 use mathlib.Core.Path.{_≡_, refl}
 use lib.ListN.{length}
 use Rattle.roles.proofs.RolePassLaws.{RolePass, pass-begins, pass-ends, pass-next}
-use Rattle.roles.proofs.discovery.discover_proto.Statement.{statement}
-use Rattle.roles.proofs.discovery.discover_proto.Tie as tie
+use Rattle.roles.proofs.discovery.discover_roles_lua51.Statement.{statement}
+use Rattle.roles.proofs.discovery.discover_roles_lua51.Tie as tie
 
 abbrev Inv : tie.InvT-loop
 Inv protos row code out₀ n cursor₀ pc₀ out cursor pc = RolePass protos row code out₀ out pc cursor × (n ≡ length code / 4)
@@ -22,8 +22,8 @@ loop-again c =
     let pre = b .before .before .before .before .before .before .before .pre in
     (pass-next _ _ _ (pre .1 .0) _ _ _ _ (l .inv .0) (omega arith) (omega (arith, pre .1 .1 .1)) _ (b .before .read-u32 .ensures) _ (b .claim-of .ensures .0) _ _ _ _ (b .claim-of .ensures .1) (k .0) (w .write-role .ensures) (k .1 .0), l .inv .1)
 
-pub discover-proto-spec : {M : Type 1} → statement M
-discover-proto-spec =
+pub discover-roles-lua51-spec : {M : Type 1} → statement M
+discover-roles-lua51-spec =
     tie.close
     (tie.spec
     Inv

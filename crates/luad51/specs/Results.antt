@@ -17,18 +17,20 @@ unfoldable pub countResult : Answer ℕ → ℕ
 countResult (refused r) = refusedResult r
 countResult (accepted n) = packed n 0
 
--- what the header's accessors read in a result
+-- what the header's accessors read in a result: the refusal's number
 unfoldable pub refusalIn : ℕ → ℕ
 refusalIn result = result / 2 ^ 32 % 2 ^ 8
 
+-- and the figure
 unfoldable pub figureIn : ℕ → ℕ
 figureIn result = result % 2 ^ 32
 
--- they read the answer back
+-- they read these two
 pub record ReadAs (result refusal figure : ℕ) : Type 0 where
   pub refusal-read : refusalIn result ≡ refusal
   pub figure-read : figureIn result ≡ figure
 
+-- they read the answer back: its refusal and figure, or 0 and the number of records
 unfoldable pub Reads : ℕ → Answer ℕ → Type 0
 Reads result (refused r) = ReadAs result (r .number) (r .figure)
 Reads result (accepted n) = ReadAs result 0 n

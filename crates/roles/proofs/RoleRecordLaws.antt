@@ -41,7 +41,7 @@ records-none old at = sym (overwrite-none old at)
 -- a buffer with some roles, and more written after them
 pub records-next : (old m new : List ℕ) (at to : ℕ) (rs ss : List Role) → to ≡ at + roleBytes * length rs → at + roleBytes * (length rs + length ss) ≤ length old
     → m ≡ overwrite old at (recordsOf rs) → new ≡ overwrite m to (recordsOf ss) → new ≡ overwrite old at (recordsOf (rs ++ ss))
-records-next old m new at to rs ss place room e d =
+records-next old m new at to rs ss start room e d =
     let size : to ≡ at + length (recordsOf rs) = omega (arith, length-records rs) in
     d
     ∙ ap₂ (λ (l : List ℕ) (n : ℕ). overwrite l n (recordsOf ss)) e size

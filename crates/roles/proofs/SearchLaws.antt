@@ -204,12 +204,9 @@ module _ (table : List ℕ) (parent : ℕ) where
       go (some c) e = let z : _≡_ {A = ℕ} 0 1 = cc in absurd (omega arith)
 
   -- a missing child has no upvalues
-  none-bound : (k : ℕ) → childOfRow table parent k ≡ none → 0 ≡ getD (protoIn table parent [] .children) k 0
+  pub missing-child : (k : ℕ) → child.Missing ≡ childOf (childOfRow table parent k) → 0 ≡ getD (protoIn table parent [] .children) k 0
   unfolding childOfRow protoIn
-  none-bound k e = sym (List·getD-eq-default (protoIn table parent [] .children) 0 (child-missing (rowAt table parent) (drop (suc parent) (rows table)) [] k e))
-
-  pub missing-bound : (k : ℕ) → child.Missing ≡ childOf (childOfRow table parent k) → 0 ≡ getD (protoIn table parent [] .children) k 0
-  missing-bound k e = none-bound k (missing k e)
+  missing-child k e = sym (List·getD-eq-default (protoIn table parent [] .children) 0 (child-missing (rowAt table parent) (drop (suc parent) (rows table)) [] k (missing k e)))
 
   -- ---- the cursor
 
@@ -227,8 +224,9 @@ module _ (table : List ℕ) (parent : ℕ) where
   unmoved u v e h = subst⁻¹ (Tracks table parent) e h
 
   -- past the end
-  pub past-end : (u : Cursor) (k : ℕ) → Tracks table parent u → u .end ≤ k → 0 ≡ getD (protoIn table parent [] .children) k 0
-  past-end u k v h = none-bound k (v .ends k h)
+  pub past-end : (u : Cursor) (k : ℕ) → Tracks table parent u → u .end ≤ k → child.Missing ≡ childOf (childOfRow table parent k)
+  unfolding childOf
+  past-end u k v h = sym (ap childOf (v .ends k h))
 
   -- it is moved to a child that was found, or a child was missed
   pub moved : (u : Cursor) (k r : ℕ) → Tracks table parent u → FoundChild k r → Tracks table parent (record { index = k; row = r; end = u .end })

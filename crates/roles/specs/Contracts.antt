@@ -30,7 +30,7 @@ use Rattle.roles.specs.declared.role.Lua51PhysicalRole.the-variants as p
 
 -- ---- refusals and answers
 
--- the number and the figure of each refusal
+-- the number and the figure of each refusal: no parts, ragged sheet, overfull, loose part, odd figure, miscount, short role tray
 unfoldable pub refusedOf : Refusal → Refused
 refusedOf refusal.NoProtos = record { number = 1; figure = 0 }
 refusedOf refusal.PartialRow = record { number = 2; figure = 0 }
@@ -81,7 +81,7 @@ protoIn table i words = protoOf (rowAt table i) (drop (suc i) (rows table)) word
 unfoldable pub childBindings : List ℕ → ℕ → ℕ → Companions
 childBindings table row k = Bindings (getD (protoIn table row [] .children) k 0)
 
--- a word's
+-- what an executable word of the row owns
 unfoldable pub companionsOf : List ℕ → ℕ → ℕ → Companions
 companionsOf table row w = cond (is w (CLOSURE ∷ [])) (childBindings table row (fieldBx w)) (cond (hasExtra w) Extra None)
 
@@ -99,10 +99,11 @@ roleOf physical.Instruction = Instruction
 roleOf (physical.ClosureBinding owner index) = ClosureBinding owner index
 roleOf (physical.SetlistExtra owner) = SetlistExtra owner
 
--- the bits of its fields
+-- the bits of its first field
 unfoldable pub ownerField : Role → ℕ
 ownerField r = i32Bits (getD (roleFields r) 0 (pos 0))
 
+-- of the second field
 unfoldable pub indexField : Role → ℕ
 indexField r = i32Bits (getD (roleFields r) 1 (pos 0))
 

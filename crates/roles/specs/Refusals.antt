@@ -7,6 +7,7 @@ use lib.Dec.{eqb, ltb, leb}
 use lib.ListN.{length}
 use Rattle.opcodes.specs.Lists.{total}
 use Rattle.roles.specs.Table.{Row, rowBytes, rows}
+use Rattle.roles.specs.Roles.{roleBytes}
 
 -- a refusal's number and figure: "the first guilty row for 4 and 5, the records needed for 8, otherwise 0"; the line for packcheck's 9 and 10
 pub record Refused : Type 0 where
@@ -48,13 +49,20 @@ badField (r ∷ rs) = orElse (refuseIf (not (fieldsFit r)) 5 (r .row)) (badField
 unfoldable pub wordTotal : List Row → ℕ
 wordTotal rs = total (map (λ (r : Row). r .words) rs)
 
+-- "Limits: 16,384 rows, 1,048,576 words", four bytes each
+abbrev pub maxRows : ℕ
+maxRows = 16384
+
+abbrev pub maxWordBytes : ℕ
+maxWordBytes = 4194304
+
 -- 1 to 6, of the table and the words as bytes: no parts, ragged sheet, overfull, loose part, odd figure, miscount
 unfoldable pub imageRefusal : List ℕ → List ℕ → Option Refused
 imageRefusal table words =
     let rs = rows table in
     orElse (refuseIf (eqb (length table) 0) 1 0)
     (orElse (refuseIf (not (eqb (length table % rowBytes) 0)) 2 0)
-    (orElse (refuseIf (ltb 16384 (length rs) || ltb 4194304 (length words)) 3 0)
+    (orElse (refuseIf (ltb maxRows (length rs) || ltb maxWordBytes (length words)) 3 0)
     (orElse (badDepth 0 0 rs)
     (orElse (badField rs)
     (refuseIf (not (eqb (length words) (4 * wordTotal rs))) 6 0)))))
@@ -62,7 +70,7 @@ imageRefusal table words =
 -- 1 to 7: short role tray, "below 8 bytes a word". The role buffer is given by its length
 unfoldable pub rolesRefusal : List ℕ → List ℕ → ℕ → Option Refused
 rolesRefusal table words roleLength =
-    orElse (imageRefusal table words) (refuseIf (ltb roleLength (8 * wordTotal (rows table))) 7 0)
+    orElse (imageRefusal table words) (refuseIf (ltb roleLength (roleBytes * wordTotal (rows table))) 7 0)
 
 -- 8, short tray: so many records of so many bytes do not fit into a buffer of so many bytes
 unfoldable pub tooShort : ℕ → ℕ → ℕ → Option Refused

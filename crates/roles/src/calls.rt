@@ -14,7 +14,7 @@ ghost use lib.ListN.{drop, length};
 ghost use Rattle.opcodes.specs.Bytes.{overwrite, u32s};
 ghost use Rattle.roles.specs.Calls.{rolesAfter, rolesAnswer};
 ghost use Rattle.roles.specs.Contracts.{answerOf, protoIn};
-ghost use Rattle.roles.specs.Refusals.{rolesRefusal};
+ghost use Rattle.roles.specs.Refusals.{maxRows, maxWordBytes, rolesRefusal};
 ghost use Rattle.roles.specs.Roles.{recordsOf, roleBytes, roles as protoRoles};
 ghost use Rattle.roles.specs.Table.{rowAt, rowBytes};
 
@@ -54,9 +54,9 @@ fn fill_roles(protos: &[u8], words: &[u8], roles: &mut [u8])
 
 // The words of a row, from `first` to `next`, and their part of the buffer.
 fn fill_row(protos: &[u8], words: &[u8], roles: &mut [u8], row: usize, first: usize, next: usize)
-    requires { ⌜ (rowBytes * row + rowBytes ≤ length (now protos)) × (length (now protos) / rowBytes ≤ 16384) ⌝ }
+    requires { ⌜ (rowBytes * row + rowBytes ≤ length (now protos)) × (length (now protos) / rowBytes ≤ maxRows) ⌝ }
     requires { ⌜ first + rowAt (now protos) row .words ≡ next ⌝ }
-    requires { ⌜ (4 * next ≤ 4194304) × (4 * next ≤ length (now words)) × (roleBytes * next ≤ length (now roles)) ⌝ }
+    requires { ⌜ (4 * next ≤ maxWordBytes) × (4 * next ≤ length (now words)) × (roleBytes * next ≤ length (now roles)) ⌝ }
     ensures { λ _. ⌜ now (roles .exit) ≡ overwrite (now (roles .entry)) (roleBytes * first) (recordsOf (protoRoles (protoIn (now (protos .entry)) row (drop first (u32s (now (words .entry))))))) ⌝ }
 {
     discover_roles_lua51(

@@ -17,11 +17,11 @@ ghost use Rattle.opcodes.specs.Bytes.{overwrite, u32s};
 ghost use Rattle.opcodes.specs.Lists.{tabulate};
 ghost use Rattle.roles.specs.Contracts.{Tracks, childBindings, claimedRoles, companionsOf, protoIn};
 ghost use Rattle.roles.specs.declared.discovery.Companions.the-variants.{Extra, None};
+ghost use Rattle.roles.specs.Refusals.{maxRows, maxWordBytes};
 ghost use Rattle.roles.specs.Roles.{ClosureBinding, recordsOf, roleBytes, roles};
 ghost use Rattle.roles.specs.Table.{rowAt, rowBytes};
 
-// The opcodes that own words, by their numbers: of the 64 numbers a damaged word may have, a test for two is foreseen by the processor,
-// one for the known 38 is not.
+// The opcodes that own words, by their numbers (docs/DECISIONS.md says why not by `Opcode51`).
 const CLOSURE: u8 = 36;
 
 const SETLIST: u8 = 34;
@@ -42,9 +42,9 @@ pub struct Claim {
 // Writes the roles of a row's words to the front of its part of the buffer. Each word is looked at once: an owner marks its companions, as
 // far as they exist, and the next word to be looked at is the one after them.
 pub fn discover_roles_lua51(protos: &[u8], row: usize, code: &[u8], out: &mut [u8])
-    requires { ⌜ (rowBytes * row + rowBytes ≤ length (now protos)) × (length (now protos) / rowBytes ≤ 16384) ⌝ }
+    requires { ⌜ (rowBytes * row + rowBytes ≤ length (now protos)) × (length (now protos) / rowBytes ≤ maxRows) ⌝ }
     requires { ⌜ rowAt (now protos) row .words ≡ length (now code) / 4 ⌝ }
-    requires { ⌜ (length (now code) ≤ 4194304) × (2 * length (now code) ≤ length (now out)) ⌝ }
+    requires { ⌜ (length (now code) ≤ maxWordBytes) × (2 * length (now code) ≤ length (now out)) ⌝ }
     ensures { λ _. ⌜ now (out .exit) ≡ overwrite (now (out .entry)) 0 (recordsOf (roles (protoIn (now (protos .entry)) row (u32s (now (code .entry)))))) ⌝ }
 {
     let n = code.len() / 4;
@@ -90,23 +90,16 @@ fn claim_child(protos: &[u8], row: usize, cursor: Cursor, k: u32) -> Claim
     ensures { λ r. ⌜ r .companions ≡ childBindings (now (protos .entry)) row k ⌝ }
     ensures { λ r. ⌜ Tracks (now (protos .entry)) row (r .cursor) ⌝ }
 {
-    if cursor.end <= k {
-        return Claim {
-            cursor,
-            companions: Companions::Bindings(0),
-        };
-    }
-    match cursor.find(protos, row, k) {
+    let found = cursor.find(protos, row, k);
+    let cursor = found.cursor;
+    let child = found.child;
+    match child {
         Child::Missing => Claim {
-            cursor: Cursor { end: k, ..cursor },
+            cursor,
             companions: Companions::Bindings(0),
         },
         Child::Row(child) => Claim {
-            cursor: Cursor {
-                index: k,
-                row: child,
-                ..cursor
-            },
+            cursor,
             companions: Companions::Bindings(field(protos, child, UPVALUES)),
         },
     }
@@ -131,7 +124,7 @@ fn claim_extra(cursor: Cursor, c: u16) -> Claim
 
 // Marks the companions of the owner at pc, of which at most `room` exist. Answers how many.
 fn mark(out: &mut [u8], pc: usize, room: usize, companions: Companions) -> usize
-    requires { ⌜ (pc + room < 1048576) × (roleBytes * (pc + 1 + room) ≤ length (now out)) ⌝ }
+    requires { ⌜ (pc + room < maxWordBytes / 4) × (roleBytes * (pc + 1 + room) ≤ length (now out)) ⌝ }
     ensures { λ r. ⌜ r ≡ length (take room (claimedRoles pc companions)) ⌝ }
     ensures { λ _. ⌜ now (out .exit) ≡ overwrite (now (out .entry)) (roleBytes * (pc + 1)) (recordsOf (take room (claimedRoles pc companions))) ⌝ }
     ensures { λ r. ⌜ r ≤ room ⌝ }
@@ -151,7 +144,7 @@ fn mark(out: &mut [u8], pc: usize, room: usize, companions: Companions) -> usize
 
 // Marks so many binding words of the CLOSURE at pc.
 fn mark_bindings(out: &mut [u8], pc: usize, count: usize) -> usize
-    requires { ⌜ (pc + count < 1048576) × (roleBytes * (pc + 1 + count) ≤ length (now out)) ⌝ }
+    requires { ⌜ (pc + count < maxWordBytes / 4) × (roleBytes * (pc + 1 + count) ≤ length (now out)) ⌝ }
     ensures { λ r. ⌜ r ≡ count ⌝ }
     ensures { λ _. ⌜ now (out .exit) ≡ overwrite (now (out .entry)) (roleBytes * (pc + 1)) (recordsOf (tabulate count (ClosureBinding pc))) ⌝ }
 {
@@ -169,7 +162,7 @@ fn mark_bindings(out: &mut [u8], pc: usize, count: usize) -> usize
 
 // Marks the extra word of the SETLIST at pc, where it exists.
 fn mark_extra(out: &mut [u8], pc: usize, room: usize) -> usize
-    requires { ⌜ (pc + room < 1048576) × (roleBytes * (pc + 1 + room) ≤ length (now out)) ⌝ }
+    requires { ⌜ (pc + room < maxWordBytes / 4) × (roleBytes * (pc + 1 + room) ≤ length (now out)) ⌝ }
     ensures { λ r. ⌜ r ≡ length (take room (claimedRoles pc Extra)) ⌝ }
     ensures { λ _. ⌜ now (out .exit) ≡ overwrite (now (out .entry)) (roleBytes * (pc + 1)) (recordsOf (take room (claimedRoles pc Extra))) ⌝ }
 {

@@ -1,4 +1,5 @@
 // Refusals 1 to 7, the least number first. Nothing is written before they are excluded.
+use crate::role::ROLE_BYTES;
 use crate::table::CONSTANTS;
 use crate::table::DEPTH;
 use crate::table::ROW_BYTES;
@@ -8,11 +9,11 @@ use crate::table::WORDS;
 use crate::table::field;
 ghost use mathlib.Core.Bool.{_||_};
 ghost use mathlib.Core.Path.{_≡_};
-ghost use Prim.Native.Nat.{_+_, _*_, _/_, _≤_};
+ghost use Prim.Native.Nat.{_+_, _*_, _/_, _^_, _≤_};
 ghost use lib.Dec.{ltb};
 ghost use lib.ListN.{length};
 ghost use Rattle.roles.specs.Contracts.{givenRefusal};
-ghost use Rattle.roles.specs.Refusals.{badDepth, badField, depthFits, fieldsFit, imageRefusal, rolesRefusal, wordTotal};
+ghost use Rattle.roles.specs.Refusals.{badDepth, badField, depthFits, fieldsFit, imageRefusal, maxRows, maxWordBytes, rolesRefusal, wordTotal};
 ghost use Rattle.roles.specs.Table.{rowAt, rowBytes, rows};
 
 pub const MAX_PROTOS: usize = 16384;
@@ -51,7 +52,7 @@ pub fn check_roles(protos: &[u8], words: &[u8], room: usize) -> Acceptance
     if let Acceptance::Refused(refusal) = check_image(protos, words) {
         return Acceptance::Refused(refusal);
     }
-    if room / 8 < words.len() / 4 {
+    if room / ROLE_BYTES < words.len() / 4 {
         return Acceptance::Refused(Refusal::RoleBufferTooShort);
     }
     Acceptance::Accepted
@@ -83,7 +84,7 @@ pub fn check_image(protos: &[u8], words: &[u8]) -> Acceptance
 }
 
 fn is_too_large(rows: usize, bytes: usize) -> bool
-    ensures { λ r. ⌜ r ≡ ltb 16384 rows || ltb 4194304 bytes ⌝ }
+    ensures { λ r. ⌜ r ≡ ltb maxRows rows || ltb maxWordBytes bytes ⌝ }
 {
     if MAX_PROTOS < rows {
         return true;
@@ -93,7 +94,7 @@ fn is_too_large(rows: usize, bytes: usize) -> bool
 
 // 4: every depth in its bounds.
 fn check_depths(protos: &[u8]) -> Acceptance
-    requires { ⌜ length (now protos) / rowBytes ≤ 16384 ⌝ }
+    requires { ⌜ length (now protos) / rowBytes ≤ maxRows ⌝ }
     ensures { λ r. ⌜ givenRefusal r ≡ badDepth 0 0 (rows (now (protos .entry))) ⌝ }
 {
     let rows = protos.len() / ROW_BYTES;
@@ -128,7 +129,7 @@ fn depth_fits(protos: &[u8], row: usize, least: u32, most: u32) -> bool
 
 // 5: constants, upvalues and stack of every row within their limits.
 fn check_fields(protos: &[u8]) -> Acceptance
-    requires { ⌜ length (now protos) / rowBytes ≤ 16384 ⌝ }
+    requires { ⌜ length (now protos) / rowBytes ≤ maxRows ⌝ }
     ensures { λ r. ⌜ givenRefusal r ≡ badField (rows (now (protos .entry))) ⌝ }
 {
     let rows = protos.len() / ROW_BYTES;
@@ -157,9 +158,9 @@ fn fields_fit(protos: &[u8], row: usize) -> bool
 
 // The words that the rows state. Each states less than 2^32, so that the sum fits.
 fn word_total(protos: &[u8]) -> u64
-    requires { ⌜ length (now protos) / rowBytes ≤ 16384 ⌝ }
+    requires { ⌜ length (now protos) / rowBytes ≤ maxRows ⌝ }
     ensures { λ r. ⌜ r ≡ wordTotal (rows (now (protos .entry))) ⌝ }
-    ensures { λ r. ⌜ r ≤ 70368744177664 ⌝ }
+    ensures { λ r. ⌜ r ≤ 2 ^ 46 ⌝ }
 {
     let rows = protos.len() / ROW_BYTES;
     let mut total: u64 = 0;

@@ -7,7 +7,7 @@ ghost use mathlib.Core.List.{[], _∷_};
 ghost use lib.ListN.{length};
 ghost use Rattle.opcodes.specs.Bytes.{overwrite};
 ghost use Rattle.roles.specs.Contracts.{indexField, ownerField, roleIn, roleOf};
-ghost use Rattle.roles.specs.Roles.{isExecutable, recordsOf, roleBytes};
+ghost use Rattle.roles.specs.Roles.{recordsOf, roleBytes};
 
 // The length of a record in bytes.
 pub const ROLE_BYTES: usize = 8;
@@ -23,17 +23,6 @@ pub enum Lua51PhysicalRole {
 }
 
 impl Lua51PhysicalRole {
-    // Whether the word is executable.
-    pub fn is_executable(self) -> bool
-        ensures { λ r. ⌜ r ≡ isExecutable (roleOf self) ⌝ }
-    {
-        match self {
-            Lua51PhysicalRole::Instruction => true,
-            Lua51PhysicalRole::ClosureBinding(_, _) => false,
-            Lua51PhysicalRole::SetlistExtra(_) => false,
-        }
-    }
-
     // The bits of the owner's pc.
     fn owner(self) -> u32
         ensures { λ r. ⌜ r ≡ ownerField (roleOf self) ⌝ }

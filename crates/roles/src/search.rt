@@ -17,9 +17,44 @@ pub struct Cursor {
     pub end: u32,
 }
 
+// A child, and the cursor after the search for it.
+pub struct Found {
+    pub child: Child,
+    pub cursor: Cursor,
+}
+
 impl Cursor {
-    // Child k of the prototype in row `parent`. The child last found, named again, is found without a search.
-    pub fn find(self, protos: &[u8], parent: usize, k: u32) -> Child
+    // Child k of the prototype in row `parent`. A child that was missing is missing again without a search.
+    pub fn find(self, protos: &[u8], parent: usize, k: u32) -> Found
+        requires { ⌜ rowBytes * parent + rowBytes ≤ length (now protos) ⌝ }
+        requires { ⌜ Tracks (now protos) parent self ⌝ }
+        ensures { λ r. ⌜ r .child ≡ childOf (childOfRow (now (protos .entry)) parent k) ⌝ }
+        ensures { λ r. ⌜ Tracks (now (protos .entry)) parent (r .cursor) ⌝ }
+    {
+        if self.end <= k {
+            return Found {
+                child: Child::Missing,
+                cursor: self,
+            };
+        }
+        match self.search(protos, parent, k) {
+            Child::Missing => Found {
+                child: Child::Missing,
+                cursor: Cursor { end: k, ..self },
+            },
+            Child::Row(row) => Found {
+                child: Child::Row(row),
+                cursor: Cursor {
+                    index: k,
+                    row,
+                    ..self
+                },
+            },
+        }
+    }
+
+    // The same from the child found last, or anew for a smaller number. The child found last, named again, is found without a search.
+    fn search(self, protos: &[u8], parent: usize, k: u32) -> Child
         requires { ⌜ rowBytes * parent + rowBytes ≤ length (now protos) ⌝ }
         requires { ⌜ Tracks (now protos) parent self ⌝ }
         ensures { λ r. ⌜ r ≡ childOf (childOfRow (now (protos .entry)) parent k) ⌝ }

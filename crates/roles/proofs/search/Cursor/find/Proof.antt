@@ -1,28 +1,25 @@
 -- `Cursor::find` meets its contract. Assumes nothing.
-use native.Mathlib.Omega.{arith}
-use Rattle.roles.proofs.SearchLaws.{anew, resumed, named-again}
+use mathlib.Core.Path.{sym, _∙_}
+use borrow.Author.Needs.{needs}
+use Rattle.roles.proofs.SearchLaws.{past-end, found-child, moved, missed}
 use Rattle.roles.proofs.search.Cursor.find.Statement.{statement}
 use Rattle.roles.proofs.search.Cursor.find.Tie as tie
 
-again : tie.Need-returns-2
-again c =
-    let b = c .before .before .before .before .before .before in
-    named-again _ _ _ _ _ _ (b .before .before .pre .1) (c .before .before .if2 .taken) (b .field .ensures) (c .before .is-child .ensures) (c .if3 .taken)
+past : tie.Need-returns
+past c = let pre = c .before .before .before .pre in (past-end _ _ _ _ (pre .1) (c .if1 .taken), pre .1)
 
-later : tie.Need-returns-3
-later c =
-    let b = c .before .before .before .before .before .before in
-    resumed _ _ _ _ _ _ (b .before .before .pre .1) (c .before .before .before .before .if1 .left) (b .field .ensures) (c .find-child2 .ensures)
+missing : tie.Need-returns-2
+missing c =
+    let e = c .before .before .search .ensures in
+    (sym (c .enum-told .given .1) ∙ e, missed _ _ _ _ (c .before .before .before .before .before .before .pre .1) (sym (c .enum-told .given .1) ∙ e))
+
+found : tie.Need-returns-3
+found c =
+    let b = c .before .before .before in
+    let e = sym (c .before .row .given .1) ∙ b .search .ensures in
+    (e, moved _ _ _ _ _ (b .before .before .before .before .pre .1) (found-child _ _ _ _ e))
 
 pub find-spec : {M : Type 1} → statement M
 find-spec =
     tie.close
-    (tie.spec
-    (λ c κs. (c .before .pre .0, omega arith))
-    (λ c. omega arith)
-    (λ c κs. tt)
-    (λ c. anew _ _ _ _ _ (c .before .before .before .field .ensures) (c .find-child .ensures))
-    (λ c κs. tt)
-    again
-    (λ c κs. tt)
-    later)
+    (tie.spec past (λ c κs. let b = c .before .before .before in (b .pre .0, b .pre .1)) (λ c. search needs) (λ c. search needs) missing found)

@@ -16,8 +16,10 @@
  * Nothing is allocated, nothing is kept after a call, and there is no global state: any number of threads may call at
  * the same time, each with a role buffer of its own.
  * A call takes at most LUAD51_STACK_BYTES of stack. Only the search for a child of a CLOSURE takes much: it goes one call
- * deeper for each row that it passes, of 48 bytes as compiled for x86-64, and it passes at most 16,383. From one CLOSURE
- * of a prototype to the next it goes on from the child found last.
+ * deeper for each row that it passes, 48 bytes each as compiled for x86-64.
+ * The time is linear in words and rows where the CLOSUREs of a prototype name its children in rising order, as compilers
+ * write them, or name the same one again. A smaller number starts the search at the prototype's first row again, so an
+ * image made to do so can take time in proportion to words times rows.
  */
 #ifndef LUAD51_H
 #define LUAD51_H
@@ -39,7 +41,7 @@ extern "C" {
 #define LUAD51_WORD_BYTES 4
 #define LUAD51_ROLE_BYTES 8
 
-/* Stack that a call takes at most: measured, not proved. */
+/* Stack that a call takes at most, as compiled for x86-64: measured, not proved. */
 #define LUAD51_STACK_BYTES 800000
 
 /* Why a call was refused: the least number whose condition holds. */

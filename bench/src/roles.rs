@@ -81,14 +81,15 @@ fn measure(name: &str, image: Image) -> f64 {
 }
 
 /// The images by their names.
-const IMAGES: [(&str, fn() -> Image); 7] = [
+const IMAGES: [(&str, fn() -> Image); 8] = [
     ("real-like", || images::real_like(images::WORDS)),
     ("same last child", || images::same_last_child(images::WORDS, 0)),
     ("same last child, 2 upvalues", || images::same_last_child(images::WORDS, 2)),
     ("same missing child", images::same_missing_child),
     ("rising children", images::rising_children),
     ("any bits", images::any_bits),
-    ("alternating (worst case)", || images::alternating(16_384)),
+    ("first and last by turns", || images::first_and_last(16_384)),
+    ("falling children", || images::falling_children(16_384)),
 ];
 
 /// Compares the roles of the images with luad's, and times nothing.

@@ -1,5 +1,6 @@
-/* How much stack the roles call takes on the image whose search for a child goes deepest: as many rows as there can be,
- * and a CLOSURE that names the last of them. The call runs in a thread whose stack is filled beforehand.
+/* How much stack the roles call takes on an image whose search for a child goes deepest: as many rows as there can be,
+ * and a CLOSURE whose child is missing, which only the end of the rows shows. The call runs in a thread whose stack is
+ * filled beforehand.
  *     cc -std=c99 -O2 -Iinclude -o stack tests/replay/stack.c target/staticlib/libluad51.a -pthread
  * Exit status: 0 within LUAD51_STACK_BYTES, 1 above, 2 the test itself failed. */
 #define _POSIX_C_SOURCE 200809L
@@ -25,13 +26,14 @@ static void put_u32(uint8_t *at, uint32_t value)
         at[i] = (uint8_t)(value >> 8 * i);
 }
 
-/* Row 0 has the one word, CLOSURE with Bx = rows - 2; all other rows are its children. */
+/* Row 0 has the one word, CLOSURE with Bx = 1; row 1 is its only child, and all later rows are children of that. */
 static void make_image(void)
 {
     put_u32(protos + 4, 1);
-    for (size_t row = 1; row < LUAD51_MAX_ROWS; row++)
-        put_u32(protos + row * LUAD51_ROW_BYTES, 1);
-    put_u32(words, (uint32_t)(LUAD51_MAX_ROWS - 2) << 14 | 36);
+    put_u32(protos + LUAD51_ROW_BYTES, 1);
+    for (size_t row = 2; row < LUAD51_MAX_ROWS; row++)
+        put_u32(protos + row * LUAD51_ROW_BYTES, 2);
+    put_u32(words, 1 << 14 | 36);
 }
 
 static void *nothing(void *unused)

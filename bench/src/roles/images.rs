@@ -184,7 +184,15 @@ pub fn same_missing_child() -> Image {
 }
 
 /// CLOSUREs that name the first and the last child by turns, of as many children as there can be.
-pub fn alternating(words: usize) -> Image {
+pub fn first_and_last(words: usize) -> Image {
     let code = [closure(0, 0), closure(0, ROWS as u32 - 2)].repeat(words / 2);
     fan(&code, &[0; ROWS - 1])
+}
+
+/// CLOSUREs that name the last children, each next one the child before: so every search but one in 64 begins anew and
+/// passes nearly all rows.
+pub fn falling_children(words: usize) -> Image {
+    let last = ROWS as u32 - 2;
+    let code: Vec<u32> = (0..64).map(|back| closure(0, last - back)).collect();
+    fan(&code.repeat(words / code.len()), &[0; ROWS - 1])
 }

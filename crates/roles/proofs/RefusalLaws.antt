@@ -10,7 +10,8 @@ use lib.ListN.{length}
 use borrow.Author.Tests.{eqb-false, ltb-false, not-false}
 use Rattle.opcodes.specs.Lists.{All, all-nil, all-cons}
 use Rattle.roles.specs.Table.{Row, rowBytes, rows}
-use Rattle.roles.specs.Refusals.{Refused, refuse, refuseIf, orElse, depthFits, badDepth, fieldsFit, badField, wordTotal, imageRefusal}
+use Rattle.roles.specs.Refusals.{Refused, refuse, refuseIf, orElse, depthFits, badDepth, fieldsFit, badField, wordTotal, imageRefusal, rolesRefusal}
+use Rattle.roles.specs.Roles.{roleBytes}
 use Rattle.opcodes.proofs.TestLaws.{T-and, or-false}
 
 -- none of two, and none of one
@@ -92,3 +93,15 @@ image-kept table words e =
       fields = fields-kept rs (n5 .0);
       word-count = eqb→eq _ _ (refuse-unless (eqb (length words) (4 * wordTotal rs)) 6 0 (n5 .1));
     }
+
+-- ---- 1 to 7
+
+pub record RolesKept (table words : List ℕ) (room : ℕ) : Type 0 where
+  pub image : ImageKept table words
+  pub fits : roleBytes * wordTotal (rows table) ≤ room
+
+pub roles-kept : (table words : List ℕ) (room : ℕ) → rolesRefusal table words room ≡ none → RolesKept table words room
+unfolding rolesRefusal
+roles-kept table words room e =
+    let n = orElse-none (imageRefusal table words) _ e in
+    record { image = image-kept table words (n .0); fits = ltb-false _ _ (refuseIf-none _ 7 0 (n .1)) }

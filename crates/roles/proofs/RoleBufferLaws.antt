@@ -13,7 +13,7 @@ use Rattle.opcodes.specs.Lists.{All, all-nil, all-cons, only, upFrom}
 use Rattle.opcodes.specs.Bytes.{i32Bits, i32Record, u32Record, u32At, u32s, overwrite}
 use Rattle.roles.specs.Table.{Row, rows, Proto, protoOf, protosOf, protos}
 use Rattle.roles.specs.Roles.{Role, Instruction, ClosureBinding, SetlistExtra, bindingCount, hasExtra, claims, rolesFrom, roles, roleAt, roleFields, roleBytes, recordsOf}
-use Rattle.roles.specs.Refusals.{Refused, wordTotal, imageRefusal, rolesRefusal}
+use Rattle.roles.specs.Refusals.{Refused, wordTotal, rolesRefusal}
 use Rattle.roles.specs.Calls.{filled, rolesAfter}
 use Rattle.roles.specs.Contracts.{ownerField, indexField, roleFrom, roleIn}
 use Rattle.opcodes.specs.Words.{is, fieldBx, CLOSURE}
@@ -21,7 +21,7 @@ use Rattle.opcodes.proofs.TestLaws.{by-cond}
 use Rattle.opcodes.proofs.AllLaws.{all-getD, all-at, all-append, all-map, all-flatMap, all-imp}
 use lib.Seq.{length-take-le, take-all, take-length}
 use Rattle.opcodes.proofs.ListLaws.{getD-flatMap, flatMap-index, length-flatMap}
-use Rattle.roles.proofs.RefusalLaws.{orElse-none, refuseIf-none, ImageKept, image-kept}
+use Rattle.roles.proofs.RefusalLaws.{ImageKept, roles-kept}
 use Rattle.roles.proofs.TableLaws.{children-most, length-protosOf}
 use Rattle.opcodes.proofs.ByteLaws.{length-u32s, length-overwrite, u32At-record}
 use Rattle.opcodes.proofs.PartLaws.{u32At-part}
@@ -240,9 +240,8 @@ module _ (table words : List ℕ) (kept : ImageKept table words) where
 pub role-looked-up : (table words old : List ℕ) (i : ℕ) (p : Proto) → rolesRefusal table words (length old) ≡ none → i < length (rows table) → (pc : ℕ)
     → roleIn (take (roleBytes * length (getD (protos table words) i p .code)) (drop (roleBytes * wordTotal (take i (rows table))) (rolesAfter table words old))) pc
     ≡ roleAt (getD (protos table words) i p) pc
-unfolding rolesRefusal rolesAfter filled
+unfolding rolesAfter filled
 role-looked-up table words old i p e h pc =
-    let n = orElse-none (imageRefusal table words) _ e in
-    let fits : 8 * wordTotal (rows table) ≤ length old = ltb-false _ _ (refuseIf-none _ 7 0 (n .1)) in
+    let k = roles-kept table words (length old) e in
     ap (λ (o : Option Refused). roleIn (take (roleBytes * length (getD (protos table words) i p .code)) (drop (roleBytes * wordTotal (take i (rows table))) (filled o old (recordsOf (flatMap roles (protos table words)))))) pc) e
-    ∙ looked-up table words (image-kept table words (n .0)) old i p fits h pc
+    ∙ looked-up table words (k .image) old i p (k .fits) h pc

@@ -8,18 +8,17 @@ use mathlib.Core.List.{List, [], _∷_, _++_, append-nil, flatMap}
 use mathlib.Core.Option.{Option, none}
 use lib.ListN.{length, getD, take, drop, length-take, length-drop}
 use lib.Seq.{take-all, take-take, drop-drop, length-take-le}
-use borrow.Author.Tests.{ltb-false}
 use Rattle.opcodes.specs.Bytes.{u32s, overwrite}
 use Rattle.roles.specs.Table.{Row, rowBytes, fieldAt, rowAt, rows, Proto, protoOf, protosOf, protos}
 use Rattle.roles.specs.Roles.{Role, roles, roleBytes, recordsOf}
-use Rattle.roles.specs.Refusals.{Refused, wordTotal, imageRefusal, rolesRefusal}
+use Rattle.roles.specs.Refusals.{Refused, wordTotal, rolesRefusal}
 use Rattle.roles.specs.Calls.{filled, rolesAfter}
 use Rattle.roles.specs.Contracts.{protoIn}
 use Rattle.opcodes.proofs.ListLaws.{flatMap-append}
 use Rattle.opcodes.proofs.ByteLaws.{length-u32s, length-overwrite}
 use Rattle.opcodes.proofs.PartLaws.{u32s-part, paste}
 use Rattle.roles.proofs.TableLaws.{length-rows, getD-rows, drop-rows, length-protosOf}
-use Rattle.roles.proofs.RefusalLaws.{orElse-none, refuseIf-none, ImageKept, image-kept}
+use Rattle.roles.proofs.RefusalLaws.{ImageKept, roles-kept}
 use Rattle.roles.proofs.RoleBufferLaws.{length-roles, wordsBefore, words-before}
 use Rattle.roles.proofs.RoleRecordLaws.{length-records, records-none, records-next}
 use Rattle.roles.proofs.RolePassLaws.{take-front}
@@ -98,12 +97,10 @@ pub record RoleFill (table words old out : List ℕ) (row first : ℕ) : Type 0 
 
 module _ (table words old : List ℕ) (accepted : rolesRefusal table words (length old) ≡ none) where
   kept : ImageKept table words
-  unfolding rolesRefusal
-  kept = image-kept table words (orElse-none (imageRefusal table words) _ accepted .0)
+  kept = roles-kept table words (length old) accepted .image
 
   enough : roleBytes * wordTotal (rows table) ≤ length old
-  unfolding rolesRefusal
-  enough = ltb-false _ _ (refuseIf-none _ 7 0 (orElse-none (imageRefusal table words) _ accepted .1))
+  enough = roles-kept table words (length old) accepted .fits
 
   pub fill-begins : RoleFill table words old old 0 0
   unfolding wordTotal flatMap

@@ -7,14 +7,14 @@ use mathlib.Core.Option.{Option, none}
 use lib.ListN.{length}
 use Rattle.roles.specs.Table.{rows, protos}
 use Rattle.roles.specs.Roles.{roles, recordsOf}
-use Rattle.roles.specs.Refusals.{Refused, wordTotal, imageRefusal, rolesRefusal}
+use Rattle.roles.specs.Refusals.{Refused, wordTotal, rolesRefusal}
 use Rattle.roles.specs.Calls.{answer, filled, rolesAnswer, rolesAfter}
 use Rattle.roles.specs.Contracts.{givenRefusal, answerOf}
 use Rattle.roles.specs.declared.refusals.Refusal.{Refusal}
 use Rattle.roles.specs.declared.refusals.Acceptance.{Acceptance}
 use Rattle.roles.specs.declared.refusals.Acceptance.the-variants as acceptance
 use Rattle.roles.specs.declared.calls.Answer.the-variants as answered
-use Rattle.roles.proofs.RefusalLaws.{orElse-none, ImageKept, image-kept}
+use Rattle.roles.proofs.RefusalLaws.{ImageKept, roles-kept}
 
 module _ (table words roleBuffer : List ℕ) (a : Acceptance) (judged : givenRefusal a ≡ rolesRefusal table words (length roleBuffer)) where
   -- a refused call answers so and writes nothing
@@ -32,8 +32,7 @@ not-refused table words room a judged e = sym judged ∙ ap givenRefusal e
 
 module _ (table words : List ℕ) (room : ℕ) (accepted : rolesRefusal table words room ≡ none) where
   kept : ImageKept table words
-  unfolding rolesRefusal
-  kept = image-kept table words (orElse-none (imageRefusal table words) _ accepted .0)
+  kept = roles-kept table words room accepted .image
 
   pub few-words : length words / 4 ≤ 1048576
   few-words = omega (arith, kept .word-limit)

@@ -11,11 +11,11 @@ use Rattle.opcodes.specs.Bytes.{i32Record}
 use Rattle.roles.specs.Table.{rows, protos}
 use Rattle.roles.specs.Roles.{roles, roleFields, recordsOf}
 use Rattle.roles.specs.Bindings.{bindingFields}
-use Rattle.roles.specs.Refusals.{Refused, tooShort, imageRefusal, rolesRefusal, wordTotal}
+use Rattle.roles.specs.Refusals.{Refused, tooShort, rolesRefusal, wordTotal}
 use Rattle.roles.specs.Calls.{answer, accepted, filled, rolesAfter, imageBindings, bindingsRefusal, bindingsAfter}
 use Rattle.opcodes.proofs.ByteLaws.{length-i32Record, overwrite-front}
 use Rattle.opcodes.proofs.ListLaws.{length-flatMap}
-use Rattle.roles.proofs.RefusalLaws.{orElse-none, refuseIf-none, image-kept}
+use Rattle.roles.proofs.RefusalLaws.{orElse-none, refuseIf-none, roles-kept}
 use Rattle.roles.proofs.RoleBufferLaws.{length-roleFields, length-all-roles}
 
 -- an accepted answer has no refusal, and is the result
@@ -47,15 +47,14 @@ fits records size room e = ltb-false room (records * size) (refuseIf-none _ 8 re
 
 pub roles-written : (table words old : List ℕ) → rolesRefusal table words (length old) ≡ none
     → rolesAfter table words old ≡ recordsOf (flatMap roles (protos table words)) ++ drop (8 * wordTotal (rows table)) old
-unfolding rolesAfter rolesRefusal recordsOf
+unfolding rolesAfter recordsOf
 roles-written table words old e =
     let zs = flatMap roleFields (flatMap roles (protos table words)) in
-    let n = orElse-none (imageRefusal table words) _ e in
-    let room : 8 * wordTotal (rows table) ≤ length old = ltb-false _ _ (refuseIf-none _ 7 0 (n .1)) in
+    let kept = roles-kept table words (length old) e in
     let count : length zs ≡ 2 * wordTotal (rows table) =
-    length-flatMap roleFields 2 length-roleFields (flatMap roles (protos table words)) ∙ ap (λ (k : ℕ). 2 * k) (length-all-roles table words (image-kept table words (n .0))) in
+    length-flatMap roleFields 2 length-roleFields (flatMap roles (protos table words)) ∙ ap (λ (k : ℕ). 2 * k) (length-all-roles table words (kept .image)) in
     let size : 4 * length zs ≡ 8 * wordTotal (rows table) = omega arith in
-    written (rolesRefusal table words (length old)) old zs e (omega arith) ∙ ap (λ (k : ℕ). i32Record zs ++ drop k old) size
+    written (rolesRefusal table words (length old)) old zs e (omega (arith, kept .fits)) ∙ ap (λ (k : ℕ). i32Record zs ++ drop k old) size
 
 -- ---- the bindings buffer: three i32 a record
 

@@ -49,10 +49,11 @@ badField (r ∷ rs) = orElse (refuseIf (not (fieldsFit r)) 5 (r .row)) (badField
 unfoldable pub wordTotal : List Row → ℕ
 wordTotal rs = total (map (λ (r : Row). r .words) rs)
 
--- "Limits: 16,384 rows, 1,048,576 words", four bytes each
+-- "above 16,384 rows"
 abbrev pub maxRows : ℕ
 maxRows = 16384
 
+-- "word slice above 4,194,304 bytes"
 abbrev pub maxWordBytes : ℕ
 maxWordBytes = 4194304
 

@@ -10,6 +10,22 @@
 /* Values in one group of a repetition at most. */
 #define LONGEST_GROUP 64
 
+/* Where a row has its upvalues: one byte, since they are at most 255 where none of the refusals 1 to 6 applies. */
+#define UPVALUES_AT 12
+
+/* How a call's lines begin, its last refusal, and the bytes of its own records. */
+struct lines {
+    const char *outcome;
+    const char *records;
+    uint32_t last_refusal;
+    size_t record_len;
+};
+
+static const struct lines LINES[CALLS] = {
+    {"roles ", "R ", LUAD51_ROLE_BUFFER_TOO_SHORT, LUAD51_ROLE_BYTES},
+    {"bindings ", "B ", LUAD51_BUFFER_TOO_SHORT, LUAD51_BINDING_BYTES},
+};
+
 /* How the values of a line are written: in decimal within limits, or as eight hexadecimal digits. */
 struct form {
     bool hexadecimal;
@@ -247,56 +263,90 @@ static void read_incoming(struct answers *answers)
 static void read_buffers(struct answers *answers, struct image *image)
 {
     need(answers, "buffers ");
-    image->role_buffer_len = u32(answers);
-    need(answers, " ");
-    u32(answers);
-    need(answers, " ");
+    for (int call = ROLES; call < CALLS; call++) {
+        image->answers[call].buffer_len = u32(answers);
+        need(answers, " ");
+    }
     u32(answers);
     end_line(answers);
 }
 
-static struct outcome read_outcome(struct answers *answers, const char *name, uint32_t last_refusal)
+static struct outcome read_outcome(struct answers *answers, const struct lines *lines)
 {
     struct outcome outcome;
-    need(answers, name);
-    outcome.refusal = (uint32_t)decimal(answers, 0, last_refusal);
+    need(answers, lines->outcome);
+    outcome.refusal = (uint32_t)decimal(answers, 0, lines->last_refusal);
     need(answers, " ");
     outcome.figure = u32(answers);
     end_line(answers);
     return outcome;
 }
 
-/* The line of role records: one for each word; if accepted, they fit and their number is the figure. */
-static void read_role_records(struct answers *answers, struct image *image)
+/* Whether a call is answered as it must be beside the roles call: refused alike where this one is refused. */
+static bool suits(const struct outcome *outcome, const struct outcome *roles)
 {
-    need(answers, "R ");
-    size_t count = u32(answers);
-    if (count != image->words.len / LUAD51_WORD_BYTES)
-        malformed(answers, "not as many role records as words");
-    size_t len = LUAD51_ROLE_BYTES * count;
-    if (image->roles.refusal == 0 && (count != image->roles.figure || len > image->role_buffer_len))
-        malformed(answers, "role records that do not suit an accepted call");
-    image->role_records = read_values(answers, &RECORD_VALUE, len);
+    if (roles->refusal == LUAD51_ACCEPTED)
+        return outcome->refusal == LUAD51_ACCEPTED || outcome->refusal == LUAD51_BUFFER_TOO_SHORT;
+    return outcome->refusal == roles->refusal && outcome->figure == roles->figure;
+}
+
+static void read_outcomes(struct answers *answers, struct image *image)
+{
+    const struct outcome *roles = &image->answers[ROLES].outcome;
+    for (int call = ROLES; call < CALLS; call++) {
+        image->answers[call].outcome = read_outcome(answers, &LINES[call]);
+        if (!suits(&image->answers[call].outcome, roles))
+            malformed(answers, "a call that is not answered as the roles call");
+    }
+    image->has_records = roles->refusal == LUAD51_ACCEPTED || roles->refusal == LUAD51_ROLE_BUFFER_TOO_SHORT;
+}
+
+/* The upvalues of all rows. */
+static size_t count_upvalues(const struct bytes *table)
+{
+    size_t count = 0;
+    for (size_t at = UPVALUES_AT; at < table->len; at += LUAD51_ROW_BYTES)
+        count += table->at[at];
+    return count;
+}
+
+/* A line of so many records. They fit the buffer of an accepted call, and do not fit where it is too short; either has
+ * their number as its figure. */
+static void read_records(struct answers *answers, const struct lines *lines, size_t count, struct answer *answer)
+{
+    const struct outcome *outcome = &answer->outcome;
+    size_t len = lines->record_len * count;
+    bool accepted = outcome->refusal == LUAD51_ACCEPTED;
+    need(answers, lines->records);
+    if (u32(answers) != count)
+        malformed(answers, "not as many records as the image needs");
+    if (accepted || outcome->refusal == LUAD51_BUFFER_TOO_SHORT)
+        if (accepted != (len <= answer->buffer_len) || outcome->figure != count)
+            malformed(answers, "records that do not suit the call's answer");
+    answer->count = count;
+    answer->records = read_values(answers, &RECORD_VALUE, len);
+}
+
+static void read_all_records(struct answers *answers, struct image *image)
+{
+    size_t counts[CALLS] = {image->words.len / LUAD51_WORD_BYTES, count_upvalues(&image->table)};
+    for (int call = ROLES; call < CALLS; call++)
+        read_records(answers, &LINES[call], counts[call], &image->answers[call]);
+    skip_line(answers, "D ");
 }
 
 static void read_image(struct answers *answers, struct image *image)
 {
+    *image = (struct image){0};
     read_label(answers, image);
     read_incoming(answers);
     image->table = read_bytes(answers, "table ", "tail ", &FIELD);
     image->words = read_bytes(answers, "words ", "wtail ", &WORD);
     read_buffers(answers, image);
-    image->roles = read_outcome(answers, "roles ", LUAD51_ROLE_BUFFER_TOO_SHORT);
-    skip_line(answers, "bindings ");
+    read_outcomes(answers, image);
     skip_line(answers, "check ");
-    if (image->roles.refusal == 0 || image->roles.refusal == LUAD51_ROLE_BUFFER_TOO_SHORT) {
-        read_role_records(answers, image);
-        skip_line(answers, "B ");
-        skip_line(answers, "D ");
-    } else {
-        image->role_records.at = NULL;
-        image->role_records.len = 0;
-    }
+    if (image->has_records)
+        read_all_records(answers, image);
     end_line(answers);
 }
 
@@ -361,5 +411,6 @@ void image_release(struct image *image)
 {
     free(image->table.at);
     free(image->words.at);
-    free(image->role_records.at);
+    for (int call = ROLES; call < CALLS; call++)
+        free(image->answers[call].records.at);
 }

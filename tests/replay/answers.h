@@ -18,14 +18,24 @@ struct outcome {
     uint32_t figure;
 };
 
+/* The calls whose answers are read. Each is lent the role buffer; a later one is lent a buffer of its own, too. */
+enum call { ROLES, BINDINGS, CALLS };
+
+/* What a call must answer, and the records that are its own: roles, or bindings. */
+struct answer {
+    struct outcome outcome;
+    size_t buffer_len; /* of the buffer for these records */
+    size_t count;
+    struct bytes records; /* all of them, also where the buffer is too short; none where has_records is false */
+};
+
 struct image {
     const char *label; /* points into the text of the file */
     int label_len;
     struct bytes table;
     struct bytes words;
-    size_t role_buffer_len;
-    struct outcome roles;
-    struct bytes role_records; /* of all words, as bytes; empty where one of the refusals 1 to 6 applies */
+    bool has_records; /* none of the refusals 1 to 6 applies */
+    struct answer answers[CALLS];
 };
 
 /* An open file and how far it is read. */

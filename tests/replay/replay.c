@@ -1,5 +1,6 @@
-/* Replays stored answers through the library: calls it for every image of the files named, and compares results and
- * buffers with the answers stored there.
+/* Replays stored answers through the library: makes its calls for every image of the files named, and compares results
+ * and buffers with the answers stored there. Where records are stored, the calls are made again with buffers that they
+ * fill exactly, and with each buffer one byte shorter.
  *     rt staticlib luad51
  *     cc -std=c99 -O2 -Iinclude -o replay tests/replay/replay.c tests/replay/answers.c target/staticlib/libluad51.a
  *     ./replay tests/answers/small.txt tests/answers/large.txt
@@ -17,7 +18,10 @@
 /* Differences that are printed; all are counted. */
 #define MOST_SHOWN 20
 
-/* Each image is called once with each of these. The two fills differ in every byte, so a byte that a call did not write
+/* Elements of an array. */
+#define COUNT(array) (sizeof(array) / sizeof *(array))
+
+/* Each call is made once with each of these. The two fills differ in every byte, so a byte that a call did not write
  * cannot look written in both. */
 struct manner {
     const char *name;
@@ -27,23 +31,11 @@ struct manner {
 
 static const struct manner MANNERS[] = {{"aligned", 0, 0x00}, {"odd addresses", 1, 0xff}};
 
-struct tally {
-    unsigned long images;
-    unsigned long by_refusal[LUAD51_ROLE_BUFFER_TOO_SHORT + 1]; /* 0: accepted */
-    unsigned long differences;
-};
-
-/* One call: its image and how it is made. */
-struct replay {
-    const struct image *image;
-    const struct manner *manner;
-    struct tally *tally;
-};
-
 /* A copy of bytes that a call reads. It ends where its block ends, so that valgrind sees reads past it. */
 struct slice {
     uint8_t *block;
     uint8_t *at;
+    size_t len;
 };
 
 /* A buffer that a call writes, between two guards. */
@@ -54,12 +46,72 @@ struct buffer {
     uint8_t *expected; /* guard, buffer and guard as they must be after the call */
 };
 
+/* All that a call is lent. */
+struct lent {
+    struct slice table;
+    struct slice words;
+    struct buffer roles;
+    struct buffer own; /* the roles call has none: empty, and not handed over */
+};
+
+/* How a call is made, and its last refusal. */
+struct maker {
+    const char *name;
+    uint64_t (*make)(const struct lent *lent);
+    uint32_t last_refusal;
+};
+
+/* Buffers that the records fill exactly, or with one byte less. */
+struct fit {
+    const char *name;
+    size_t roles_lack;
+    size_t own_lacks;
+};
+
+static const struct fit FITS[] = {
+    {"exact buffers", 0, 0}, {"role buffer a byte short", 1, 0}, {"own buffer a byte short", 0, 1}};
+
+struct tally {
+    unsigned long images;
+    unsigned long calls;
+    unsigned long stored[CALLS][LUAD51_BUFFER_TOO_SHORT + 1]; /* stored answers by refusal; 0: accepted */
+    unsigned long differences;
+};
+
+/* A call: its image, the buffers that it is lent, and what it must answer. */
+struct replay {
+    const struct image *image;
+    enum call call;
+    const char *buffers; /* which ones */
+    size_t roles_len;
+    size_t own_len;
+    struct outcome outcome;
+    const struct manner *manner;
+    struct tally *tally;
+};
+
+static uint64_t make_roles(const struct lent *lent)
+{
+    return luad51_roles(lent->table.at, lent->table.len, lent->words.at, lent->words.len, lent->roles.at,
+                        lent->roles.len);
+}
+
+static uint64_t make_bindings(const struct lent *lent)
+{
+    return luad51_bindings(lent->table.at, lent->table.len, lent->words.at, lent->words.len, lent->roles.at,
+                           lent->roles.len, lent->own.at, lent->own.len);
+}
+
+static const struct maker MAKERS[CALLS] = {{"roles call", make_roles, LUAD51_ROLE_BUFFER_TOO_SHORT},
+                                           {"bindings call", make_bindings, LUAD51_BUFFER_TOO_SHORT}};
+
 /* Counts a difference. If it is to be shown, prints where it is and returns true; the caller prints the rest. */
 static bool differs(const struct replay *replay, const char *what)
 {
     if (replay->tally->differences++ >= MOST_SHOWN)
         return false;
-    printf("%.*s (%s): %s", replay->image->label_len, replay->image->label, replay->manner->name, what);
+    printf("%.*s (%s, %s, %s): %s", replay->image->label_len, replay->image->label, MAKERS[replay->call].name,
+           replay->buffers, replay->manner->name, what);
     return true;
 }
 
@@ -87,8 +139,7 @@ static struct slice lend_slice(const struct replay *replay, const struct bytes *
     size_t room = replay->manner->offset + bytes->len;
     if (room == 0)
         room = 1;
-    struct slice slice;
-    slice.block = allocate(room);
+    struct slice slice = {.block = allocate(room), .len = bytes->len};
     slice.at = slice.block + room - bytes->len;
     memcpy(slice.at, bytes->at, bytes->len);
     return slice;
@@ -97,12 +148,12 @@ static struct slice lend_slice(const struct replay *replay, const struct bytes *
 static void take_back_slice(const struct replay *replay, const char *what, struct slice *slice,
                             const struct bytes *expected)
 {
-    compare_bytes(replay, what, expected->at, slice->at, expected->len, 0);
+    compare_bytes(replay, what, expected->at, slice->at, slice->len, 0);
     free(slice->block);
 }
 
-/* A buffer with a fill that depends on the index; nothing is expected to be written yet. */
-static struct buffer lend_buffer(const struct replay *replay, size_t len)
+/* A buffer with a fill that depends on the index. Records are expected in front of it if they are to be written. */
+static struct buffer lend_buffer(const struct replay *replay, size_t len, const struct bytes *records, bool written)
 {
     size_t count = GUARD + len + GUARD;
     struct buffer buffer = {.block = allocate(replay->manner->offset + count), .len = len, .expected = allocate(count)};
@@ -110,12 +161,9 @@ static struct buffer lend_buffer(const struct replay *replay, size_t len)
     for (size_t i = 0; i < count; i++)
         buffer.expected[i] = (uint8_t)((uint32_t)i * 2654435761u >> 24) ^ replay->manner->flip;
     memcpy(buffer.at - GUARD, buffer.expected, count);
+    if (written)
+        memcpy(buffer.expected + GUARD, records->at, records->len);
     return buffer;
-}
-
-static void expect_records(struct buffer *buffer, const struct bytes *records)
-{
-    memcpy(buffer->expected + GUARD, records->at, records->len);
 }
 
 static void take_back_buffer(const struct replay *replay, const char *what, struct buffer *buffer)
@@ -125,38 +173,93 @@ static void take_back_buffer(const struct replay *replay, const char *what, stru
     free(buffer->expected);
 }
 
-static void compare_result(const struct replay *replay, const struct outcome *expected, uint64_t result)
+static struct lent lend(const struct replay *replay)
 {
-    compare_number(replay, "refusal", expected->refusal, luad51_refusal(result));
-    compare_number(replay, "figure", expected->figure, luad51_figure(result));
+    const struct image *image = replay->image;
+    bool accepted = replay->outcome.refusal == LUAD51_ACCEPTED;
+    bool roles_written = accepted || replay->outcome.refusal == LUAD51_BUFFER_TOO_SHORT;
+    bool own_written = accepted && replay->call != ROLES;
+    struct lent lent;
+    lent.table = lend_slice(replay, &image->table);
+    lent.words = lend_slice(replay, &image->words);
+    lent.roles = lend_buffer(replay, replay->roles_len, &image->answers[ROLES].records, roles_written);
+    lent.own = lend_buffer(replay, replay->own_len, &image->answers[replay->call].records, own_written);
+    return lent;
+}
+
+static void take_back(const struct replay *replay, struct lent *lent)
+{
+    take_back_buffer(replay, "own buffer", &lent->own);
+    take_back_buffer(replay, "role buffer", &lent->roles);
+    take_back_slice(replay, "words", &lent->words, &replay->image->words);
+    take_back_slice(replay, "table", &lent->table, &replay->image->table);
+}
+
+static void compare_result(const struct replay *replay, uint64_t result)
+{
+    compare_number(replay, "refusal", replay->outcome.refusal, luad51_refusal(result));
+    compare_number(replay, "figure", replay->outcome.figure, luad51_figure(result));
     compare_number(replay, "bits 40 to 63", 0, result >> 40);
 }
 
-static void replay_roles(const struct replay *replay)
+/* Makes a call in each manner. */
+static void replay_call(struct replay *replay)
 {
-    const struct image *image = replay->image;
-    struct slice table = lend_slice(replay, &image->table);
-    struct slice words = lend_slice(replay, &image->words);
-    struct buffer roles = lend_buffer(replay, image->role_buffer_len);
-    if (image->roles.refusal == LUAD51_ACCEPTED)
-        expect_records(&roles, &image->role_records);
+    for (size_t i = 0; i < COUNT(MANNERS); i++) {
+        replay->manner = &MANNERS[i];
+        struct lent lent = lend(replay);
+        compare_result(replay, MAKERS[replay->call].make(&lent));
+        take_back(replay, &lent);
+        replay->tally->calls++;
+    }
+}
 
-    uint64_t result = luad51_roles(table.at, image->table.len, words.at, image->words.len, roles.at, roles.len);
+static void replay_stored(const struct image *image, enum call call, struct tally *tally)
+{
+    const struct answer *answer = &image->answers[call];
+    struct replay replay = {.image = image, .call = call, .buffers = "stored buffers", .tally = tally};
+    replay.roles_len = image->answers[ROLES].buffer_len;
+    replay.own_len = call == ROLES ? 0 : answer->buffer_len;
+    replay.outcome = answer->outcome;
+    replay_call(&replay);
+    tally->stored[call][answer->outcome.refusal]++;
+}
 
-    compare_result(replay, &image->roles, result);
-    take_back_buffer(replay, "role buffer", &roles);
-    take_back_slice(replay, "table", &table, &image->table);
-    take_back_slice(replay, "words", &words, &image->words);
+/* What a call answers that has so many records and is lent such buffers. */
+static struct outcome outcome_for(const struct fit *fit, size_t count)
+{
+    struct outcome outcome = {LUAD51_ACCEPTED, (uint32_t)count};
+    if (fit->roles_lack > 0) {
+        outcome.refusal = LUAD51_ROLE_BUFFER_TOO_SHORT;
+        outcome.figure = 0;
+    } else if (fit->own_lacks > 0) {
+        outcome.refusal = LUAD51_BUFFER_TOO_SHORT;
+    }
+    return outcome;
+}
+
+/* A call with such buffers, if they have the byte that they lack. */
+static void replay_fit(const struct image *image, enum call call, const struct fit *fit, struct tally *tally)
+{
+    size_t roles_len = image->answers[ROLES].records.len;
+    size_t own_len = call == ROLES ? 0 : image->answers[call].records.len;
+    if (roles_len < fit->roles_lack || own_len < fit->own_lacks)
+        return;
+    struct replay replay = {.image = image, .call = call, .buffers = fit->name, .tally = tally};
+    replay.roles_len = roles_len - fit->roles_lack;
+    replay.own_len = own_len - fit->own_lacks;
+    replay.outcome = outcome_for(fit, image->answers[call].count);
+    replay_call(&replay);
 }
 
 static void replay_image(const struct image *image, struct tally *tally)
 {
-    for (size_t i = 0; i < sizeof MANNERS / sizeof *MANNERS; i++) {
-        struct replay replay = {image, &MANNERS[i], tally};
-        replay_roles(&replay);
+    for (int call = ROLES; call < CALLS; call++) {
+        replay_stored(image, call, tally);
+        for (size_t i = 0; image->has_records && i < COUNT(FITS); i++)
+            replay_fit(image, call, &FITS[i], tally);
     }
     tally->images++;
-    tally->by_refusal[image->roles.refusal]++;
 }
 
 static void replay_file(const char *path, struct tally *tally)
@@ -173,9 +276,13 @@ static void replay_file(const char *path, struct tally *tally)
 
 static void print_tally(const struct tally *tally)
 {
-    printf("%lu images replayed twice: %lu accepted, refused ", tally->images, tally->by_refusal[LUAD51_ACCEPTED]);
-    for (int i = LUAD51_NO_PROTOS; i <= LUAD51_ROLE_BUFFER_TOO_SHORT; i++)
-        printf("%d: %lu%s", i, tally->by_refusal[i], i < LUAD51_ROLE_BUFFER_TOO_SHORT ? ", " : "; ");
+    printf("%lu images, %lu calls; stored answers: ", tally->images, tally->calls);
+    for (int call = ROLES; call < CALLS; call++) {
+        uint32_t last = MAKERS[call].last_refusal;
+        printf("%s %lu accepted, refused ", MAKERS[call].name, tally->stored[call][LUAD51_ACCEPTED]);
+        for (uint32_t i = LUAD51_NO_PROTOS; i <= last; i++)
+            printf("%u: %lu%s", (unsigned)i, tally->stored[call][i], i < last ? ", " : "; ");
+    }
     printf("%lu differences\n", tally->differences);
 }
 

@@ -1,11 +1,12 @@
 // The C interface, as include/luad51.h declares it. A call's answer goes out as one number.
 use roles::calls::Answer;
+use roles::calls::write_bindings;
 use roles::calls::write_roles;
 use roles::refusals::Refusal;
 ghost use mathlib.Core.Path.{_≡_};
 ghost use lib.ListN.{length};
 ghost use Rattle.luad51.specs.Results.{ReadAs, Reads, countResult, packed, refusedResult};
-ghost use Rattle.roles.specs.Calls.{rolesAfter, rolesAnswer};
+ghost use Rattle.roles.specs.Calls.{bindingsAfter, bindingsAnswer, rolesAfter, rolesAnswer};
 ghost use Rattle.roles.specs.Contracts.{answerOf, refusedOf};
 
 // The roles call.
@@ -16,6 +17,22 @@ pub extern "C" fn luad51_roles(protos: &[u8], words: &[u8], roles: &mut [u8]) ->
     ensures { λ _. ⌜ now (roles .exit) ≡ rolesAfter (now (protos .entry)) (now (words .entry)) (now (roles .entry)) ⌝ }
 {
     count_result(write_roles(protos, words, roles))
+}
+
+// The bindings call.
+#[no_mangle]
+pub extern "C" fn luad51_bindings(
+    protos: &[u8],
+    words: &[u8],
+    roles: &mut [u8],
+    bindings: &mut [u8],
+) -> u64
+    ensures { λ r. ⌜ r ≡ countResult (bindingsAnswer (now (protos .entry)) (now (words .entry)) (length (now (roles .entry))) (length (now (bindings .entry)))) ⌝ }
+    ensures { λ r. ⌜ Reads r (bindingsAnswer (now (protos .entry)) (now (words .entry)) (length (now (roles .entry))) (length (now (bindings .entry)))) ⌝ }
+    ensures { λ _. ⌜ now (roles .exit) ≡ rolesAfter (now (protos .entry)) (now (words .entry)) (now (roles .entry)) ⌝ }
+    ensures { λ _. ⌜ now (bindings .exit) ≡ bindingsAfter (now (protos .entry)) (now (words .entry)) (length (now (roles .entry))) (now (bindings .entry)) ⌝ }
+{
+    count_result(write_bindings(protos, words, roles, bindings))
 }
 
 // The number of a refusal or of records.
@@ -41,6 +58,7 @@ fn refused_result(refusal: Refusal) -> u64
         Refusal::FieldOverLimit(row) => pack(row, 5),
         Refusal::WordCountMismatch => pack(0, 6),
         Refusal::RoleBufferTooShort => pack(0, 7),
+        Refusal::BufferTooShort(records) => pack(records, 8),
     }
 }
 

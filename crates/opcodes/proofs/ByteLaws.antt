@@ -8,7 +8,7 @@ use mathlib.Core.Bool.{Bool, true, false, cond, not}
 use mathlib.Core.List.{List, [], _∷_, _++_, append-assoc, append-nil, flatMap, map}
 use borrow.Author.Tests.{le-leb, lt-leb, leb-true, leb-false, not-true, not-false}
 use lib.Dec.{leb}
-use lib.ListN.{length, getD, take, drop, length-append, length-map, length-take, length-drop, take-append-drop}
+use lib.ListN.{length, getD, take, drop, drop-of-length-le, length-append, length-map, length-take, length-drop, take-append-drop}
 use lib.IntN.{ℤ}
 use lib.Seq.{sets, sets-eq, take-at, drop-drop, drop-append-add, getD-append-add, length-take-le, take-suc, ext-getD}
 use Rattle.opcodes.specs.Lists.{All, all-cons}
@@ -54,6 +54,10 @@ overwrite-unfit old at new h = simp (lt-leb _ _ h)
 -- a write to the front of a buffer
 pub overwrite-front : (old new : List ℕ) → length new ≤ length old → overwrite old 0 new ≡ new ++ drop (length new) old
 overwrite-front old new h = overwrite-fits old 0 new (omega arith) ∙ ap (λ (n : ℕ). new ++ drop n old) (zero-add (length new))
+
+-- a write to all of a buffer
+pub overwrite-whole : (old new : List ℕ) → length new ≡ length old → overwrite old 0 new ≡ new
+overwrite-whole old new h = overwrite-front old new (omega arith) ∙ ap (λ (l : List ℕ). new ++ l) (drop-of-length-le old {i = length new} (omega arith)) ∙ append-nil new
 
 -- stores one after the other are one write
 pub sets-overwrite : (old : List ℕ) (at : ℕ) (new : List ℕ) → at + length new ≤ length old → sets old at new ≡ overwrite old at new

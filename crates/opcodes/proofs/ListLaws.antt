@@ -1,10 +1,11 @@
 -- Laws of the shared lists. Assumes nothing.
 use Prim.Native.Nat.{ℕ, zero, suc, _+_, _*_, _≤_, _<_}
 use native.Mathlib.Nat.{add-zero, zero-add, add-suc, suc-add, mul-zero, mul-suc, not-suc-le-zero, le-of-suc-le-suc}
+use native.Mathlib.Numerals.{add-one}
 use native.Mathlib.Omega.{arith}
 use mathlib.Core.Path.{_≡_, refl, sym, _∙_, ap}
 use mathlib.Core.Bool.{Bool, true, false}
-use mathlib.Core.List.{List, [], _∷_, _++_, map, flatMap, append-assoc}
+use mathlib.Core.List.{List, [], _∷_, _++_, map, flatMap, foldl, append-assoc}
 use lib.ListN.{length, getD, take, length-append, length-map, List·getD-append}
 use lib.Seq.{getD-append-add}
 use Rattle.opcodes.specs.Lists.{upFrom, tabulate, select, keepIf, takeWhile, goOnIf}
@@ -93,3 +94,34 @@ module _ {A B : Type 0} (f : A → List B) where
   unfolding flatMap
   length-flatMap m size [] = sym (mul-zero m)
   length-flatMap m size (x ∷ xs) = length-append (f x) (flatMap f xs) ∙ omega (arith, size x, length-flatMap m size xs, mul-suc m (length xs))
+
+-- ---- folds
+
+-- numbers up to a + b are those up to a and then the others
+pub upFrom-append : (i a b : ℕ) → upFrom i (a + b) ≡ upFrom i a ++ upFrom (i + a) b
+upFrom-append i zero b = rw (zero-add, add-zero)
+upFrom-append i (suc a) b = ap (upFrom i) (suc-add a b) ∙ ap (λ (l : List ℕ). i ∷ l) (upFrom-append (suc i) a b ∙ rw (suc-add, add-suc))
+
+module _ {A B : Type 0} (f : B → A → B) where
+  pub foldl-append : (z : B) (xs ys : List A) → foldl f z (xs ++ ys) ≡ foldl f (foldl f z xs) ys
+  foldl-append z [] ys = refl
+  foldl-append z (x ∷ xs) ys = foldl-append (f z x) xs ys
+
+  pub foldl-map : {C : Type 0} (g : C → A) (z : B) (xs : List C) → foldl f z (map g xs) ≡ foldl (λ (z : B) (x : C). f z (g x)) z xs
+  foldl-map g z [] = refl
+  foldl-map g z (x ∷ xs) = foldl-map g (f z (g x)) xs
+
+  pub foldl-flatMap : {C : Type 0} (g : C → List A) (z : B) (xs : List C) → foldl f z (flatMap g xs) ≡ foldl (λ (z : B) (x : C). foldl f z (g x)) z xs
+  unfolding flatMap
+  foldl-flatMap g z [] = refl
+  foldl-flatMap g z (x ∷ xs) = foldl-append z (g x) (flatMap g xs) ∙ foldl-flatMap g (foldl f z (g x)) xs
+
+  pub foldl-same : (g : B → A → B) → ((z : B) (x : A) → f z x ≡ g z x) → (z : B) (xs : List A) → foldl f z xs ≡ foldl g z xs
+  foldl-same g e z [] = refl
+  foldl-same g e z (x ∷ xs) = foldl-same g e (f z x) xs ∙ ap (λ (y : B). foldl g y xs) (e z x)
+
+-- over numbers, one more
+pub foldl-next : {B : Type 0} (f : B → ℕ → B) (z : B) (n : ℕ) → foldl f z (upFrom 0 (suc n)) ≡ f (foldl f z (upFrom 0 n)) n
+foldl-next f z n =
+    ap (foldl f z) (ap (upFrom 0) (sym (add-one n)) ∙ upFrom-append 0 n 1 ∙ ap (λ (k : ℕ). upFrom 0 n ++ (k ∷ [])) (zero-add n))
+    ∙ foldl-append f z (upFrom 0 n) (n ∷ [])

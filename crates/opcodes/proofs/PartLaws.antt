@@ -2,12 +2,12 @@
 use Prim.Native.Nat.{ℕ, _+_, _*_, _≤_, _<_}
 use native.Mathlib.Nat.{add-assoc}
 use native.Mathlib.Omega.{arith}
-use mathlib.Core.Path.{_≡_, sym, _∙_, ap}
-use mathlib.Core.List.{List, _++_, append-assoc}
-use lib.ListN.{length, getD, take, drop, length-drop, take-append-drop}
-use lib.Seq.{length-take-le, take-take, take-add, drop-drop, drop-append-le, getD-take, getD-drop, ext-getD}
+use mathlib.Core.Path.{_≡_, sym, _∙_, ap, ap₂}
+use mathlib.Core.List.{List, [], _++_, append-assoc}
+use lib.ListN.{length, getD, take, drop, length-append, length-drop, take-append-drop}
+use lib.Seq.{length-take-le, take-append-add, take-append-le, drop-append-add, drop-append-le, getD-take, getD-drop, ext-getD}
 use Rattle.opcodes.specs.Bytes.{u32At, u32s, overwrite}
-use Rattle.opcodes.proofs.ByteLaws.{length-u32s, getD-u32s, overwrite-fits}
+use Rattle.opcodes.proofs.ByteLaws.{length-u32s, getD-u32s, overwrite-fits, overwrite-front, overwrite-whole}
 
 -- ---- reading
 
@@ -35,28 +35,42 @@ u32s-part s a n h =
 
 -- ---- writing
 
--- what is written to a part stands in the whole list, counted from where the part begins
+-- what is written to a part of a list stands in the whole list, counted from where the part begins
+module _ (front part rest : List ℕ) (i : ℕ) (new : List ℕ) (fits : i + length new ≤ length part) where
+  whole-length : length (front ++ (part ++ rest)) ≡ length front + (length part + length rest)
+  whole-length = length-append front (part ++ rest) ∙ ap (λ (n : ℕ). length front + n) (length-append part rest)
+
+  pub paste-part : front ++ (overwrite part i new ++ rest) ≡ overwrite (front ++ (part ++ rest)) (length front + i) new
+  paste-part =
+      let n = length new in
+      let whole = front ++ (part ++ rest) in
+      let before : take (length front + i) whole ≡ front ++ take i part = take-append-add front (part ++ rest) i ∙ ap (λ (l : List ℕ). front ++ l) (take-append-le i part rest (omega arith)) in
+      let after : drop (length front + i + n) whole ≡ drop (i + n) part ++ rest =
+      ap (λ (k : ℕ). drop k whole) (add-assoc (length front) i n) ∙ drop-append-add front (part ++ rest) (i + n) ∙ drop-append-le (i + n) part rest fits in
+      ap (λ (l : List ℕ). front ++ (l ++ rest)) (overwrite-fits part i new fits)
+      ∙ ap (λ (l : List ℕ). front ++ l) (append-assoc (take i part ++ new) (drop (i + n) part) rest)
+      ∙ sym (append-assoc front (take i part ++ new) (drop (i + n) part ++ rest))
+      ∙ ap (λ (l : List ℕ). l ++ (drop (i + n) part ++ rest)) (sym (append-assoc front (take i part) new))
+      ∙ ap₂ (λ (l r : List ℕ). l ++ new ++ r) (sym before) (sym after)
+      ∙ sym (overwrite-fits whole (length front + i) new (omega (arith, whole-length)))
+
+-- a list by one of its parts
+pub by-part : (xs : List ℕ) (a k : ℕ) → take a xs ++ (take k (drop a xs) ++ drop k (drop a xs)) ≡ xs
+by-part xs a k = ap (λ (l : List ℕ). take a xs ++ l) (take-append-drop k (drop a xs)) ∙ take-append-drop a xs
+
 module _ (xs : List ℕ) (a k i : ℕ) (new : List ℕ) (fits : i + length new ≤ k) (inside : a + k ≤ length xs) where
-  part-length : length (take k (drop a xs)) ≡ k
-  part-length = length-take-le k (drop a xs) (omega (arith, length-drop a xs))
-
-  -- the bytes after the new ones, in the part and past it
-  tail : drop (i + length new) (take k (drop a xs)) ++ drop k (drop a xs) ≡ drop (a + i + length new) xs
-  tail =
-      sym (drop-append-le (i + length new) (take k (drop a xs)) (drop k (drop a xs)) (omega (arith, part-length)))
-      ∙ ap (drop (i + length new)) (take-append-drop k (drop a xs))
-      ∙ drop-drop (i + length new) a xs
-      ∙ ap (λ (n : ℕ). drop n xs) (sym (add-assoc a i (length new)))
-
-  -- those before them
-  front : take a xs ++ take i (take k (drop a xs)) ≡ take (a + i) xs
-  front = ap (λ (l : List ℕ). take a xs ++ l) (take-take i k (drop a xs) (omega arith)) ∙ sym (take-add a i xs)
-
   pub paste : take a xs ++ (overwrite (take k (drop a xs)) i new ++ drop k (drop a xs)) ≡ overwrite xs (a + i) new
   paste =
-      ap (λ (l : List ℕ). take a xs ++ (l ++ drop k (drop a xs))) (overwrite-fits (take k (drop a xs)) i new (omega (arith, part-length)))
-      ∙ ap (λ (l : List ℕ). take a xs ++ l) (append-assoc (take i (take k (drop a xs)) ++ new) _ (drop k (drop a xs)))
-      ∙ ap (λ (l : List ℕ). take a xs ++ (take i (take k (drop a xs)) ++ new ++ l)) tail
-      ∙ sym (append-assoc (take a xs) (take i (take k (drop a xs)) ++ new) (drop (a + i + length new) xs))
-      ∙ ap (λ (l : List ℕ). l ++ drop (a + i + length new) xs) (sym (append-assoc (take a xs) (take i (take k (drop a xs))) new) ∙ ap (λ (l : List ℕ). l ++ new) front)
-      ∙ sym (overwrite-fits xs (a + i) new (omega arith))
+      let part : length (take k (drop a xs)) ≡ k = length-take-le k (drop a xs) (omega (arith, length-drop a xs)) in
+      let front : length (take a xs) ≡ a = length-take-le a xs (omega arith) in
+      paste-part (take a xs) (take k (drop a xs)) (drop k (drop a xs)) i new (omega arith)
+      ∙ ap₂ (λ (l : List ℕ) (n : ℕ). overwrite l (n + i) new) (by-part xs a k) front
+
+-- a write over one of the same length
+pub overwrite-again : (old new more : List ℕ) → length new ≤ length old → length more ≡ length new → overwrite (overwrite old 0 new) 0 more ≡ overwrite old 0 more
+overwrite-again old new more h e =
+    let rest = drop (length new) old in
+    ap (λ (l : List ℕ). overwrite l 0 more) (overwrite-front old new h)
+    ∙ sym (paste-part [] new rest 0 more (omega arith))
+    ∙ ap (λ (l : List ℕ). l ++ rest) (overwrite-whole new more e)
+    ∙ sym (overwrite-front old more (omega arith) ∙ ap (λ (n : ℕ). more ++ drop n old) e)

@@ -6,7 +6,7 @@ use Rattle.opcodes.specs.Bytes.{u32Bytes, u32Record, u32s, u32At}
 use Rattle.opcodes.specs.Words.{B, C, is}
 use Rattle.roles.specs.Table.{rowAt, rows, below, children, childAt, protoOf, protosOf, protos}
 use Rattle.roles.specs.Roles.{bindingCount, hasExtra, claims, rolesFrom, roles, roleAt, wordAt, executableAt, existing, bindingWords, roleFields}
-use Rattle.roles.specs.Bindings.{unbound, bindingIndex, writeOf, writesAt, writes, bindingTotal, firstBinding, setBinding, bindRows, bindings, bindingFields}
+use Rattle.roles.specs.Bindings.{unbound, bindingIndex, bindingOf, writeOf, writesAt, writes, bindingTotal, firstBinding, setBinding, bindRows, bindings, bindingFields}
 use Rattle.roles.specs.Refusals.{refuse, refuseIf, orElse, depthFits, badDepth, fieldsFit, badField, wordTotal, imageRefusal, rolesRefusal, tooShort}
 use Rattle.roles.specs.Calls.{imageBindings, bindingsRefusal}
 use Rattle.roles.specs.Examples.{rolesOf, bindingsOf, examples, refusalOf, refusals}
@@ -16,9 +16,9 @@ unfolding examples rolesOf only u32Bytes u32Record u32s u32At B C is rowAt rows 
 roles-hold = refl
 
 pub bindings-hold : map bindingsOf examples ≡ map (λ e. e .bindings) examples
-unfolding examples bindingsOf only u32Bytes u32Record u32s u32At B C is rowAt rows below children childAt protoOf protosOf protos bindingCount hasExtra claims rolesFrom roles roleAt wordAt executableAt existing bindingWords unbound bindingIndex writeOf writesAt writes bindingTotal firstBinding setBinding bindRows bindings bindingFields imageBindings flatMap
+unfolding examples bindingsOf only u32Bytes u32Record u32s u32At B C is rowAt rows below children childAt protoOf protosOf protos bindingCount hasExtra claims rolesFrom roles roleAt wordAt executableAt existing bindingWords unbound bindingIndex bindingOf writeOf writesAt writes bindingTotal firstBinding setBinding bindRows bindings bindingFields imageBindings flatMap
 bindings-hold = refl
 
 pub refusals-hold : map refusalOf refusals ≡ map (λ e. e .expected) refusals
-unfolding refusals refusalOf only u32Bytes u32Record u32s u32At B C is rowAt rows below children childAt protoOf protosOf bindingCount hasExtra claims rolesFrom roles roleAt wordAt executableAt existing bindingWords unbound bindingIndex writeOf writesAt writes bindingTotal firstBinding setBinding bindRows bindings imageBindings refuse refuseIf orElse depthFits badDepth fieldsFit badField wordTotal imageRefusal rolesRefusal tooShort bindingsRefusal flatMap
+unfolding refusals refusalOf only u32Bytes u32Record u32s u32At B C is rowAt rows below children childAt protoOf protosOf bindingCount hasExtra claims rolesFrom roles roleAt wordAt executableAt existing bindingWords unbound bindingIndex bindingOf writeOf writesAt writes bindingTotal firstBinding setBinding bindRows bindings imageBindings refuse refuseIf orElse depthFits badDepth fieldsFit badField wordTotal imageRefusal rolesRefusal tooShort bindingsRefusal flatMap
 refusals-hold = refl

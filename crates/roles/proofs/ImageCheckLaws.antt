@@ -10,13 +10,14 @@ use lib.ListN.{length}
 use borrow.Author.Tests.{eq-eqb, ne-eqb, lt-ltb, le-ltb, ltb-false}
 use Rattle.roles.specs.Table.{rowBytes, rows}
 use Rattle.roles.specs.Refusals.{Refused, refuse, refuseIf, orElse, badDepth, badField, wordTotal, imageRefusal, rolesRefusal}
-use Rattle.roles.specs.Contracts.{givenRefusal}
+use Rattle.roles.specs.Contracts.{fieldTotal, givenRefusal}
 use Rattle.roles.specs.declared.refusals.Refusal.{Refusal}
 use Rattle.roles.specs.declared.refusals.Acceptance.{Acceptance}
 use Rattle.roles.specs.declared.refusals.Acceptance.the-variants as acceptance
 use Rattle.opcodes.proofs.TestLaws.{or-false}
 use Rattle.roles.proofs.TableLaws.{length-rows}
 use Rattle.roles.proofs.RefusalLaws.{image-kept}
+use Rattle.roles.proofs.TotalLaws.{word-fields}
 
 -- a check that refuses decides; one that accepts leaves it to those after it
 pub refuses : (a : Acceptance) (r : Refusal) (o p : Option Refused) → a ≡ acceptance.Refused r → givenRefusal a ≡ o → givenRefusal (acceptance.Refused r) ≡ orElse o p
@@ -76,7 +77,10 @@ module _ (table words : List ℕ) where
         pub bad-field : (x : Refusal) → f ≡ acceptance.Refused x → givenRefusal (acceptance.Refused x) ≡ imageRefusal table words
         bad-field x e = refuses f x _ _ e fields ∙ later
 
-        module _ (fit : f ≡ acceptance.Accepted) (n : ℕ) (total : n ≡ wordTotal (rows table)) where
+        module _ (fit : f ≡ acceptance.Accepted) (n : ℕ) (stated : n ≡ fieldTotal table 1) where
+          total : n ≡ wordTotal (rows table)
+          total = stated ∙ sym (word-fields table)
+
           last : count-refusal ≡ imageRefusal table words
           last = sym (accepts f _ _ fit fields) ∙ later
 

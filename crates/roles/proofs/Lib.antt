@@ -1,3 +1,7 @@
+pub mod BindingFillLaws
+pub mod BindingPassLaws
+pub mod BindingRecordLaws
+pub mod BindingsCallLaws
 pub mod ExampleLaws
 pub mod ImageCheckLaws
 pub mod OwnerLaws
@@ -11,5 +15,6 @@ pub mod RolesCallLaws
 pub mod RowCheckLaws
 pub mod SearchLaws
 pub mod TableLaws
+pub mod TotalLaws
 pub mod UntouchedLaws
 pub mod WrittenLaws

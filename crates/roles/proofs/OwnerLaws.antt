@@ -1,4 +1,4 @@
--- What an executable word owns, by the number of its opcode. Assumes nothing.
+-- What a word is by the number of its opcode, and what an executable one owns. Assumes nothing.
 use Prim.Native.Nat.{ℕ}
 use mathlib.Core.Path.{_≡_, sym, _∙_, ap}
 use mathlib.Core.Bool.{true, false, cond}
@@ -11,15 +11,22 @@ use Rattle.roles.specs.Roles.{hasExtra}
 use Rattle.roles.specs.Contracts.{childBindings, companionsOf}
 use Rattle.roles.specs.declared.discovery.Companions.the-variants.{None, Extra}
 
-module _ (table : List ℕ) (row w : ℕ) (r : RawInstruction51) (split : r ≡ decoded w) where
-  -- the word has this opcode, or has another
-  same : (op : ℕ) → r .«opcode_num» ≡ op → is w (op ∷ []) ≡ true
+-- a word that was split has this opcode, or has another
+module _ (w : ℕ) (r : RawInstruction51) (split : r ≡ decoded w) where
+  pub has-opcode : (op : ℕ) → r .«opcode_num» ≡ op → is w (op ∷ []) ≡ true
   unfolding decoded is
-  same op e = rw (eq-eqb (opcode w) op (sym (ap (λ (x : RawInstruction51). x .«opcode_num») split) ∙ e))
+  has-opcode op e = rw (eq-eqb (opcode w) op (sym (ap (λ (x : RawInstruction51). x .«opcode_num») split) ∙ e))
+
+  pub has-other : (op : ℕ) → (r .«opcode_num» ≡ op → ⊥) → is w (op ∷ []) ≡ false
+  unfolding decoded is
+  has-other op f = rw (ne-eqb (opcode w) op (λ e. f (ap (λ (x : RawInstruction51). x .«opcode_num») split ∙ e)))
+
+module _ (table : List ℕ) (row w : ℕ) (r : RawInstruction51) (split : r ≡ decoded w) where
+  same : (op : ℕ) → r .«opcode_num» ≡ op → is w (op ∷ []) ≡ true
+  same = has-opcode w r split
 
   other : (op : ℕ) → (r .«opcode_num» ≡ op → ⊥) → is w (op ∷ []) ≡ false
-  unfolding decoded is
-  other op f = rw (ne-eqb (opcode w) op (λ e. f (ap (λ (x : RawInstruction51). x .«opcode_num») split ∙ e)))
+  other = has-other w r split
 
   pub owns-bindings : r .«opcode_num» ≡ CLOSURE → childBindings table row (r .bx) ≡ companionsOf table row w
   unfolding companionsOf decoded

@@ -18,24 +18,11 @@ use Rattle.opcodes.proofs.ListLaws.{flatMap-append}
 use Rattle.opcodes.proofs.ByteLaws.{length-u32s, length-overwrite}
 use Rattle.opcodes.proofs.PartLaws.{u32s-part, paste}
 use Rattle.roles.proofs.TableLaws.{length-rows, getD-rows, drop-rows, length-protosOf}
+use Rattle.roles.proofs.TotalLaws.{words-front, words-next}
 use Rattle.roles.proofs.RefusalLaws.{ImageKept, roles-kept}
 use Rattle.roles.proofs.RoleBufferLaws.{length-roles, wordsBefore, words-before}
 use Rattle.roles.proofs.RoleRecordLaws.{length-records, records-none, records-next}
 use Rattle.roles.proofs.RolePassLaws.{take-front}
-
--- ---- the words of the rows before one
-
-pub total-front : (rs : List Row) (k : ℕ) → wordTotal (take k rs) ≤ wordTotal rs
-unfolding wordTotal
-total-front rs zero = omega arith
-total-front [] (suc k) = omega arith
-total-front (r ∷ rs) (suc k) = omega (arith, total-front rs k)
-
-total-next : (rs : List Row) (k : ℕ) (d : Row) → k < length rs → wordTotal (take (suc k) rs) ≡ wordTotal (take k rs) + getD rs k d .words
-unfolding wordTotal
-total-next [] k d h = absurd (omega arith)
-total-next (r ∷ rs) zero d h = omega arith
-total-next (r ∷ rs) (suc k) d h = omega (arith, total-next rs k d (omega arith))
 
 -- ---- the prototypes from one on
 
@@ -123,7 +110,7 @@ module _ (table words old : List ℕ) (accepted : rolesRefusal table words (leng
       -- the row's words and its part of the buffer are there
       next : first + n ≡ wordTotal (take (suc row) (rows table))
       next =
-          let e = total-next (rows table) row (rowAt table row) (omega (arith, length-rows table)) in
+          let e = words-next (rows table) row (rowAt table row) (omega (arith, length-rows table)) in
           let r : getD (rows table) row (rowAt table row) .words ≡ n = ap (λ (x : Row). x .words) (getD-rows table row (rowAt table row) there) ∙ words-of in
           omega (arith, v .before)
 
@@ -132,9 +119,9 @@ module _ (table words old : List ℕ) (accepted : rolesRefusal table words (leng
 
       pub words-there : (4 * (first + n) ≤ 4194304) × (4 * (first + n) ≤ length words) × (roleBytes * (first + n) ≤ length out)
       words-there = (
-        omega (arith, next, total-front (rows table) (suc row), kept .word-count, kept .word-limit),
-        omega (arith, next, total-front (rows table) (suc row), kept .word-count),
-        omega (arith, next, total-front (rows table) (suc row), enough, v .long),
+        omega (arith, next, words-front (rows table) (suc row), kept .word-count, kept .word-limit),
+        omega (arith, next, words-front (rows table) (suc row), kept .word-count),
+        omega (arith, next, words-front (rows table) (suc row), enough, v .long),
       )
 
       pub fill-next : (new : List ℕ) → new ≡ overwrite out (roleBytes * first) (recordsOf (roles (protoIn table row (drop first (u32s words))))) → RoleFill table words old new (row + 1) (first + n)

@@ -3,7 +3,7 @@ use Prim.Native.Nat.{ℕ, zero, suc, _+_, _<_}
 use native.Mathlib.Nat.{not-suc-le-zero, le-of-suc-le-suc, add-zero, add-suc, zero-add, suc-add}
 use native.Mathlib.Numerals.{add-one}
 use mathlib.Core.Path.{_≡_, refl, sym, _∙_, subst, ap, ap₂}
-use mathlib.Core.Bool.{Bool, true, false, not}
+use mathlib.Core.Bool.{Bool, true, false, not, _&&_}
 use mathlib.Core.List.{List, [], _∷_, map}
 use lib.ListN.{length, getD, drop, set, length-drop}
 use lib.Seq.{getD-drop}
@@ -13,8 +13,8 @@ use Rattle.opcodes.specs.Lists.{All, all-nil, all-cons, upFrom, only}
 use Rattle.opcodes.specs.Words.{is, CLOSURE, SETLIST}
 use Rattle.roles.specs.Table.{Proto}
 use Rattle.roles.specs.Roles.{Role, Instruction, ClosureBinding, SetlistExtra, isExecutable, executableAt, Executable, bindingCount, hasExtra, claims, rolesFrom, roles, roleAt, wordAt, owned, existing, companions}
-use Rattle.opcodes.proofs.AllLaws.{all-append}
-use Rattle.opcodes.proofs.TestLaws.{T-and, T-true, and-T, by-cond, disjoint, is-not}
+use Rattle.opcodes.proofs.AllLaws.{all-append, all-at}
+use Rattle.opcodes.proofs.TestLaws.{T-and, T-true, T-false, and-T, by-cond, disjoint, is-not}
 
 -- ---- an executable word
 
@@ -125,6 +125,19 @@ owned-role p pc j x h =
     sym (getD-drop (pc + 1) (roles p) j Instruction)
     ∙ ap (λ (l : List Role). getD l j Instruction) (roles-after p pc x)
     ∙ claimed-role p (pc + 1) (claims p pc (wordAt p pc)) (drop (pc + 1) (p .code)) j (omega (arith, owned-count p pc x)) (omega (arith, length-drop (pc + 1) (p .code)))
+
+and-false : (a b : Bool) → b ≡ false → a && b ≡ false
+and-false true b e = e
+and-false false b e = refl
+
+-- so that none of them is executable
+pub companion-unexecutable : (p : Proto) (pc j : ℕ) → Executable p pc → j < companions p pc → executableAt p (pc + 1 + j) ≡ false
+unfolding executableAt companions existing
+companion-unexecutable p pc j x h =
+    let cs = claims p pc (wordAt p pc) in
+    let mine = all-at j Instruction (omega (arith, owned-count p pc x)) (claims-companions p pc (wordAt p pc)) in
+    let no : isExecutable (roleAt p (pc + 1 + j)) ≡ false = ap isExecutable (owned-role p pc j x h) ∙ T-false (isExecutable (getD cs j Instruction)) mine in
+    and-false (ltb (pc + 1 + j) (length (p .code))) (isExecutable (roleAt p (pc + 1 + j))) no
 
 -- other bits in a companion change no role: it is never read as an owner
 pub companion-unread : (p : Proto) (pc : ℕ) (claimed : List Role) (ws : List ℕ) (k w : ℕ) → T (not (isExecutable (getD (rolesFrom p pc claimed ws) k Instruction)))

@@ -6,21 +6,21 @@ use mathlib.Core.Path.{_≡_, refl, sym, _∙_, ap, ap₂, subst, subst⁻¹}
 use mathlib.Core.Bool.{Bool, true, false}
 use mathlib.Core.List.{List, [], _∷_, _++_, append-nil, append-assoc}
 use lib.Dec.{T}
-use lib.ListN.{length, take, drop, length-take, length-drop, length-append}
-use lib.Seq.{take-nil, take-all, take-at, take-add, drop-at, drop-drop, drop-cons, length-take-le}
+use lib.ListN.{length, getD, take, drop, length-take, length-drop}
+use lib.Seq.{take-nil, take-all, take-at, take-add, drop-at, drop-drop, drop-cons, getD-drop, length-take-le}
 use Rattle.opcodes.specs.Lists.{only}
 use Rattle.opcodes.specs.Bytes.{u32At, u32s, overwrite}
 use Rattle.opcodes.specs.Words.{is, CLOSURE, SETLIST}
 use Rattle.roles.specs.Table.{rowBytes, rowAt, Proto, protoOf}
-use Rattle.roles.specs.Roles.{Role, Instruction, bindingCount, hasExtra, claims, rolesFrom, roles, roleBytes, recordsOf}
-use Rattle.roles.specs.Contracts.{Tracks, protoIn, childBindings, companionsOf, claimedRoles}
+use Rattle.roles.specs.Roles.{Role, Instruction, bindingCount, hasExtra, claims, rolesFrom, roles, roleAt, wordAt, Executable, existing, companions, roleBytes, recordsOf}
+use Rattle.roles.specs.Contracts.{Tracks, protoIn, childBindings, companionsOf, claimedRoles, existingRoles}
 use Rattle.roles.specs.declared.search.Cursor.{Cursor}
 use Rattle.roles.specs.declared.discovery.Companions.{Companions}
 use Rattle.opcodes.proofs.ByteLaws.{length-u32s, getD-u32s, length-overwrite}
 use Rattle.opcodes.proofs.TestLaws.{T-and, is-not}
+use Rattle.roles.proofs.RoleLaws.{role-executable, executable, owned-count}
 use Rattle.roles.proofs.RoleBufferLaws.{length-roles}
 use Rattle.roles.proofs.RoleRecordLaws.{records-none, records-next}
-use Rattle.roles.proofs.SearchLaws.{begins}
 
 -- ---- a list from index k on, by its front
 
@@ -65,21 +65,27 @@ pub record RolePass (table : List ℕ) (row : ℕ) (code old out : List ℕ) (pc
   pub left : drop pc (roles (protoIn table row (u32s code))) ≡ rolesFrom (protoIn table row (u32s code)) pc [] (drop pc (u32s code))
   pub written : out ≡ overwrite old 0 (recordsOf (take pc (roles (protoIn table row (u32s code)))))
 
+-- the executable word at pc, with k companions
+pub record OwnerHere (p : Proto) (pc w k : ℕ) : Type 0 where
+  pub executes : Executable p pc
+  pub word : wordAt p pc ≡ w
+  pub count : k ≡ companions p pc
+
 module _ (table : List ℕ) (row : ℕ) (code : List ℕ) (stated : rowAt table row .words ≡ length code / 4) where
   abbrev p : Proto
   p = protoIn table row (u32s code)
 
   -- the row states as many words as there are
-  code-of : p .code ≡ u32s code
+  pub code-of : p .code ≡ u32s code
   unfolding protoIn protoOf
   code-of = take-all (rowAt table row .words) (u32s code) (omega (arith, length-u32s code))
 
   count : length (roles p) ≡ length code / 4
   count = length-roles p ∙ ap length code-of ∙ length-u32s code
 
-  pub pass-begins : (old : List ℕ) (n : ℕ) → n ≡ length table / rowBytes → RolePass table row code old old 0 (record { index = 0; row = row + 1; end = n })
+  pub pass-begins : (old : List ℕ) (u : Cursor) → Tracks table row u → RolePass table row code old old 0 u
   unfolding roles
-  pass-begins old n e = record { within = omega arith; long = refl; tracks = begins table row n e; left = ap (rolesFrom p 0 []) code-of; written = records-none old 0 }
+  pass-begins old u t = record { within = omega arith; long = refl; tracks = t; left = ap (rolesFrom p 0 []) code-of; written = records-none old 0 }
 
   module _ (old out : List ℕ) (pc : ℕ) (u : Cursor) (v : RolePass table row code old out pc u) where
     pub pass-ends : length code / 4 ≤ pc → out ≡ overwrite old 0 (recordsOf (roles p))
@@ -88,50 +94,75 @@ module _ (table : List ℕ) (row : ℕ) (code : List ℕ) (stated : rowAt table 
     -- an executable word, and the companions that exist
     module _ (there : pc < length code / 4) (room : 2 * length code ≤ length old) (w : ℕ) (word : w ≡ u32At code (4 * pc)) (cs : Companions) (owns : cs ≡ companionsOf table row w) where
       abbrev mine : List Role
-      mine = take (length code / 4 - pc - 1) (claimedRoles pc cs)
+      mine = existingRoles (length code / 4) pc cs
 
       next-word : drop pc (u32s code) ≡ w ∷ drop (suc pc) (u32s code)
       next-word =
           drop-cons (u32s code) pc 0 (omega (arith, length-u32s code))
           ∙ ap (λ (x : ℕ). x ∷ drop (suc pc) (u32s code)) (getD-u32s code pc there ∙ sym word)
 
+      -- what exists of the words that it claims
+      claimed : take (length (drop (suc pc) (u32s code))) (claims p pc w) ≡ mine
+      unfolding existingRoles
+      claimed =
+          let size : length (drop (suc pc) (u32s code)) ≡ length code / 4 - pc - 1 = omega (arith, length-drop (suc pc) (u32s code), length-u32s code) in
+          ap₂ (λ (n : ℕ) (l : List Role). take n l) size (sym (ap (claimedRoles pc) owns ∙ claims-claimed table row pc w (u32s code)))
+
       front : drop pc (roles p) ≡ (Instruction ∷ mine) ++ rolesFrom p (suc pc + length mine) [] (drop (length mine) (drop (suc pc) (u32s code)))
       unfolding rolesFrom
       front =
           let ws = drop (suc pc) (u32s code) in
-          let cl = claims p pc w in
-          let size : length ws ≡ length code / 4 - pc - 1 = omega (arith, length-drop (suc pc) (u32s code), length-u32s code) in
-          let same : cl ≡ claimedRoles pc cs = sym (ap (claimedRoles pc) owns ∙ claims-claimed table row pc w (u32s code)) in
-          let all : take (length ws) cl ≡ mine = ap₂ (λ (n : ℕ) (l : List Role). take n l) size same in
           v .left
           ∙ ap (rolesFrom p pc []) next-word
           ∙ ap (λ (l : List Role). Instruction ∷ l)
-          (past-claims p (suc pc) cl ws ∙ ap (λ (l : List Role). l ++ rolesFrom p (suc pc + length l) [] (drop (length l) ws)) all)
+          (past-claims p (suc pc) (claims p pc w) ws ∙ ap (λ (l : List Role). l ++ rolesFrom p (suc pc + length l) [] (drop (length l) ws)) claimed)
 
-      pub pass-next : (m new : List ℕ) (k : ℕ) (u′ : Cursor) → Tracks table row u′ → k ≡ length mine → m ≡ overwrite out (roleBytes * pc) (recordsOf (Instruction ∷ []))
-          → new ≡ overwrite m (roleBytes * (pc + 1)) (recordsOf mine) → RolePass table row code old new (pc + (1 + k)) u′
-      pass-next m new k u′ r l e d =
+      pub pass-next : (new : List ℕ) (k : ℕ) (u′ : Cursor) → Tracks table row u′ → k ≡ length mine → k < length code / 4 - pc
+          → new ≡ overwrite out (roleBytes * pc) (recordsOf (Instruction ∷ mine)) → RolePass table row code old new (pc + (1 + k)) u′
+      pass-next new k u′ r l most d =
           let rs = take pc (roles p) in
-          let most : length mine ≤ length code / 4 - pc - 1 = omega (arith, length-take (length code / 4 - pc - 1) (claimedRoles pc cs)) in
           let here : length rs ≡ pc = length-take-le pc (roles p) (omega (arith, count)) in
-          let first : m ≡ overwrite old 0 (recordsOf (rs ++ (Instruction ∷ []))) =
-          records-next old out m 0 (roleBytes * pc) rs (Instruction ∷ []) (omega arith) (omega arith) (v .written) e in
-          let size : length (rs ++ (Instruction ∷ [])) ≡ pc + 1 = length-append rs (Instruction ∷ []) ∙ omega arith in
-          let both : new ≡ overwrite old 0 (recordsOf ((rs ++ (Instruction ∷ [])) ++ mine)) =
-          records-next old m new 0 (roleBytes * (pc + 1)) (rs ++ (Instruction ∷ [])) mine (omega arith) (omega arith) first d in
+          let all : new ≡ overwrite old 0 (recordsOf (rs ++ (Instruction ∷ mine))) =
+          records-next old out new 0 (roleBytes * pc) rs (Instruction ∷ mine) (omega arith) (omega arith) (v .written) d in
           let to : pc + (1 + k) ≡ pc + suc (length mine) = omega arith in
           let on : suc pc + length mine ≡ pc + suc (length mine) = omega arith in
           record {
             within = omega arith;
-            long = ap length both ∙ length-overwrite old 0 _;
+            long = ap length all ∙ length-overwrite old 0 _;
             tracks = r;
             left =
                 subst⁻¹ (λ (n : ℕ). drop n (roles p) ≡ rolesFrom p n [] (drop n (u32s code))) to
                 (drop-front (roles p) pc (Instruction ∷ mine) _ front
                 ∙ ap (rolesFrom p (suc pc + length mine) []) (drop-drop (length mine) (suc pc) (u32s code))
                 ∙ ap (λ (n : ℕ). rolesFrom p n [] (drop n (u32s code))) on);
-            written =
-                both
-                ∙ ap (λ (l : List Role). overwrite old 0 (recordsOf l))
-                (append-assoc rs (Instruction ∷ []) mine ∙ sym (ap (λ (n : ℕ). take n (roles p)) to ∙ take-front (roles p) pc (Instruction ∷ mine) _ front));
+            written = all ∙ ap (λ (l : List Role). overwrite old 0 (recordsOf l)) (sym (ap (λ (n : ℕ). take n (roles p)) to ∙ take-front (roles p) pc (Instruction ∷ mine) _ front));
+          }
+
+      -- it is executable, and so many companions exist
+      word-here : wordAt p pc ≡ w
+      unfolding wordAt
+      word-here = ap (λ (l : List ℕ). getD l pc 0) code-of ∙ getD-u32s code pc there ∙ sym word
+
+      executable-here : Executable p pc
+      unfolding roleAt
+      executable-here =
+          executable p pc (omega (arith, ap length code-of, length-u32s code))
+          (role-executable (ap (λ (n : ℕ). getD (roles p) n Instruction) (sym (add-zero pc)) ∙ sym (getD-drop pc (roles p) 0 Instruction) ∙ ap (λ (l : List Role). getD l 0 Instruction) front))
+
+      pub owner-here : (k : ℕ) → k ≡ length mine → OwnerHere p pc w k
+      unfolding companions existing
+      owner-here k e =
+          let ws = drop (suc pc) (u32s code) in
+          record {
+            executes = executable-here;
+            word = word-here;
+            count = omega (
+              arith,
+              ap length (sym claimed),
+              length-take (length ws) (claims p pc w),
+              length-drop (suc pc) (u32s code),
+              ap length code-of,
+              owned-count p pc executable-here,
+              ap (λ (x : ℕ). length (claims p pc x)) word-here,
+            );
           }

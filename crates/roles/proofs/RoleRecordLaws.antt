@@ -1,5 +1,5 @@
 -- The records of roles as bytes: one role, some after others, and what is written where. Assumes nothing.
-use Prim.Native.Nat.{ℕ, _+_, _*_, _≤_, _<_}
+use Prim.Native.Nat.{ℕ, _+_, _-_, _*_, _≤_, _<_}
 use native.Mathlib.Numerals.{add-one}
 use native.Mathlib.Omega.{arith}
 use mathlib.Core.Path.{_≡_, refl, sym, _∙_, ap, ap₂}
@@ -9,7 +9,7 @@ use lib.Seq.{take-all, take-nil}
 use Rattle.opcodes.specs.Lists.{tabulate}
 use Rattle.opcodes.specs.Bytes.{i32Bits, i32Record, u32Record, overwrite}
 use Rattle.roles.specs.Roles.{Role, Instruction, ClosureBinding, SetlistExtra, roleFields, roleBytes, recordsOf}
-use Rattle.roles.specs.Contracts.{ownerField, indexField, claimedRoles}
+use Rattle.roles.specs.Contracts.{ownerField, indexField, claimedRoles, existingRoles}
 use Rattle.roles.specs.declared.discovery.Companions.{Companions}
 use Rattle.roles.specs.declared.discovery.Companions.the-variants.{None, Bindings, Extra}
 use Rattle.opcodes.proofs.ListLaws.{flatMap-append, length-flatMap, length-tabulate, tabulate-next, take-tabulate}
@@ -71,17 +71,29 @@ module _ (old new : List ℕ) (pc room : ℕ) (cs : Companions) where
   unfolding claimedRoles
   marked-none e d = these [] 0 (ap (λ (x : Companions). take room (claimedRoles pc x)) e ∙ take-nil room) refl (d ∙ records-none old (roleBytes * (pc + 1)))
 
-  pub marked-few : (n r : ℕ) → cs ≡ Bindings n → n < room → r ≡ n → new ≡ overwrite old (roleBytes * (pc + 1)) (recordsOf (tabulate n (ClosureBinding pc))) → Marked old new pc room cs r
+  pub marked-few : (n o r : ℕ) → cs ≡ Bindings n o → n < room → r ≡ n → new ≡ overwrite old (roleBytes * (pc + 1)) (recordsOf (tabulate n (ClosureBinding pc))) → Marked old new pc room cs r
   unfolding claimedRoles
-  marked-few n r e h c d =
+  marked-few n o r e h c d =
       let f = ClosureBinding pc in
       these (tabulate n f) r (ap (λ (x : Companions). take room (claimedRoles pc x)) e ∙ take-all room (tabulate n f) (omega (arith, length-tabulate f n))) (c ∙ sym (length-tabulate f n)) d
 
-  pub marked-all : (n r : ℕ) → cs ≡ Bindings n → room ≤ n → r ≡ room → new ≡ overwrite old (roleBytes * (pc + 1)) (recordsOf (tabulate room (ClosureBinding pc))) → Marked old new pc room cs r
+  pub marked-all : (n o r : ℕ) → cs ≡ Bindings n o → room ≤ n → r ≡ room → new ≡ overwrite old (roleBytes * (pc + 1)) (recordsOf (tabulate room (ClosureBinding pc))) → Marked old new pc room cs r
   unfolding claimedRoles
-  marked-all n r e h c d =
+  marked-all n o r e h c d =
       let f = ClosureBinding pc in
       these (tabulate room f) r (ap (λ (x : Companions). take room (claimedRoles pc x)) e ∙ take-tabulate f room n h) (c ∙ sym (length-tabulate f room)) d
 
   pub marked-extra : (n : ℕ) → cs ≡ Extra → n ≡ length (take room (claimedRoles pc Extra)) → new ≡ overwrite old (roleBytes * (pc + 1)) (recordsOf (take room (claimedRoles pc Extra))) → Marked old new pc room cs n
   marked-extra n e l d = these (take room (claimedRoles pc Extra)) n (ap (λ (x : Companions). take room (claimedRoles pc x)) e) l d
+
+-- ---- an executable word, and the companions that exist among n words
+
+pub owner-marked : (old m new : List ℕ) (pc n k : ℕ) (cs : Companions) → pc < n → roleBytes * n ≤ length old → m ≡ overwrite old (roleBytes * pc) (recordsOf (Instruction ∷ []))
+    → Marked m new pc (n - pc - 1) cs k → (k ≡ length (existingRoles n pc cs)) × ((new ≡ overwrite old (roleBytes * pc) (recordsOf (Instruction ∷ existingRoles n pc cs))) × (k < n - pc))
+unfolding existingRoles
+owner-marked old m new pc n k cs there room e d =
+    let mine = take (n - pc - 1) (claimedRoles pc cs) in
+    let most : length mine ≤ n - pc - 1 = omega (arith, length-take (n - pc - 1) (claimedRoles pc cs)) in (
+      d .0,
+      (records-next old m new (roleBytes * pc) (roleBytes * (pc + 1)) (Instruction ∷ []) mine (omega arith) (omega arith) e (d .1 .0), omega (arith, d .1 .1)),
+    )

@@ -5,15 +5,16 @@ use mathlib.Core.Path.{_≡_, sym, _∙_, ap}
 use mathlib.Core.List.{List, flatMap}
 use mathlib.Core.Option.{Option, none}
 use lib.ListN.{length}
-use Rattle.roles.specs.Table.{rows, protos}
+use Rattle.roles.specs.Table.{rowBytes, rows, protos}
 use Rattle.roles.specs.Roles.{roles, recordsOf}
-use Rattle.roles.specs.Refusals.{Refused, wordTotal, rolesRefusal}
+use Rattle.roles.specs.Refusals.{Refused, maxRows, wordTotal, rolesRefusal}
 use Rattle.roles.specs.Calls.{answer, filled, rolesAnswer, rolesAfter}
 use Rattle.roles.specs.Contracts.{givenRefusal, answerOf}
 use Rattle.roles.specs.declared.refusals.Refusal.{Refusal}
 use Rattle.roles.specs.declared.refusals.Acceptance.{Acceptance}
 use Rattle.roles.specs.declared.refusals.Acceptance.the-variants as acceptance
 use Rattle.roles.specs.declared.calls.Answer.the-variants as answered
+use Rattle.roles.proofs.TableLaws.{length-rows}
 use Rattle.roles.proofs.RefusalLaws.{ImageKept, roles-kept}
 
 module _ (table words roleBuffer : List ℕ) (a : Acceptance) (judged : givenRefusal a ≡ rolesRefusal table words (length roleBuffer)) where
@@ -33,6 +34,9 @@ not-refused table words room a judged e = sym judged ∙ ap givenRefusal e
 module _ (table words : List ℕ) (room : ℕ) (accepted : rolesRefusal table words room ≡ none) where
   kept : ImageKept table words
   kept = roles-kept table words room accepted .image
+
+  pub few-rows : length table / rowBytes ≤ maxRows
+  few-rows = omega (arith, kept .row-limit, length-rows table)
 
   pub few-words : length words / 4 ≤ 1048576
   few-words = omega (arith, kept .word-limit)

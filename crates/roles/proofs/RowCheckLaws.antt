@@ -70,24 +70,3 @@ module _ (table : List ℕ) (row : ℕ) (v : FieldsLeft table row) where
     pub field-next : not r ≡ false → FieldsLeft table (row + 1)
     unfolding badField orElse refuseIf
     field-next f = record { left = v .left ∙ ap badField (drop-rows table row there) ∙ rw (← fits, f, add-one); within = omega arith }
-
--- ---- the words that the rows state
-
-pub record TotalLeft (table : List ℕ) (total row : ℕ) : Type 0 where
-  pub left : wordTotal (rows table) ≡ total + wordTotal (drop row (rows table))
-  pub within : row ≤ length table / rowBytes
-  pub most : total ≤ 4294967296 * row
-
-module _ (table : List ℕ) (total row : ℕ) (v : TotalLeft table total row) where
-  pub total-end : length table / rowBytes ≤ row → wordTotal (rows table) ≡ total
-  unfolding wordTotal
-  total-end h = v .left ∙ ap (λ (rs : List Row). total + wordTotal rs) (rows-end table row h) ∙ add-zero total
-
-  pub total-next : (x : ℕ) → row < length table / rowBytes → x ≡ fieldAt table row 1 → x < 4294967296 → TotalLeft table (total + x) (row + 1)
-  unfolding wordTotal rowAt
-  total-next x h e l =
-      record {
-        left = v .left ∙ ap (λ (rs : List Row). total + wordTotal rs) (drop-rows table row h) ∙ rw (← e, add-one, add-assoc);
-        within = omega arith;
-        most = omega (arith, v .most);
-      }

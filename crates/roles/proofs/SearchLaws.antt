@@ -1,5 +1,5 @@
 -- The search for a child over the rows of a table, one at a time, and where it can be resumed. Assumes nothing.
-use Prim.Native.Nat.{ℕ, zero, suc, _+_, _-_, _/_, _≤_, _<_}
+use Prim.Native.Nat.{ℕ, zero, suc, _+_, _-_, _/_, _%_, _^_, _≤_, _<_}
 use native.Mathlib.Nat.{not-suc-le-zero, le-of-suc-le-suc, zero-add, suc-add}
 use native.Mathlib.Numerals.{add-one}
 use native.Mathlib.Omega.{arith}
@@ -12,13 +12,15 @@ use lib.ListN.{length, getD, drop, getElem?, length-drop, List·getD-eq-default}
 use borrow.Author.Tests.{lt-ltb, le-ltb, eq-eqb, ne-eqb, ltb-true, ltb-false, eqb-true, eqb-false}
 use Rattle.opcodes.specs.Lists.{takeWhile}
 use Rattle.roles.specs.Table.{Row, rowBytes, fieldAt, rowAt, rows, below, children, childAt}
-use Rattle.roles.specs.Contracts.{childOf, childOfRow, isChild, Tracks, protoIn}
+use Rattle.roles.specs.Contracts.{recordsBetween, childFrom, childOfRow, isChild, Tracks, protoIn, recordsBefore, childBindings}
 use Rattle.roles.specs.declared.table.Child.{Child}
 use Rattle.roles.specs.declared.table.Child.the-variants as child
 use Rattle.roles.specs.declared.search.Cursor.{Cursor}
+use Rattle.roles.specs.declared.discovery.Companions.the-variants.{Bindings}
 use Rattle.opcodes.proofs.ListLaws.{select-most, takeWhile-most}
 use Rattle.opcodes.proofs.TestLaws.{T-and}
 use Rattle.roles.proofs.TableLaws.{length-rows, drop-rows, child-end, child-found, child-next, child-deeper, child-upvalues, child-missing, element-missing}
+use Rattle.roles.proofs.TotalLaws.{none-between, between-join, between-next, wrapped}
 
 -- ---- one row more
 
@@ -55,49 +57,16 @@ module _ (table : List ℕ) (at d : ℕ) (there : at < length table / rowBytes) 
   row-deeper : (k : ℕ) → suc d < rowAt table at .depth → childAt d (drop at (rows table)) k ≡ childAt d (drop (suc at) (rows table)) k
   row-deeper k h = from k _ (child-deeper d (rowAt table at) _ k h)
 
--- ---- the same as the code has it
-
-abbrev search : List ℕ → ℕ → ℕ → ℕ → Child
-search table at d k = childOf (childAt d (drop at (rows table)) k)
-
-pub find-few : (table : List ℕ) (at d k : ℕ) → length table / rowBytes - at ≤ k → child.Missing ≡ search table at d k
-unfolding childOf
-find-few table at d k h = sym (ap childOf (too-few table at d k (omega arith)))
-
-pub find-none : (table : List ℕ) (at d k : ℕ) → length table / rowBytes ≤ at → child.Missing ≡ search table at d k
-find-none table at d k h = find-few table at d k (omega arith)
-
-module _ (table : List ℕ) (at d k x : ℕ) (there : at < length table / rowBytes) (depth : x ≡ fieldAt table at 0) where
-  here : rowAt table at .depth ≡ x
-  unfolding rowAt
-  here = sym depth
-
-  pub find-end : x ≤ d → child.Missing ≡ search table at d k
-  unfolding childOf
-  find-end h = sym (ap childOf (row-end table at d there k (omega (arith, here))))
-
-  pub find-found : x ≡ suc d → k ≡ 0 → child.Row at ≡ search table at d k
-  unfolding childOf rowAt
-  find-found h e = sym (ap (search table at d) e ∙ ap childOf (row-found table at d there (here ∙ h)))
-
-  pub find-next : x ≡ suc d → (k ≡ 0 → ⊥) → search table (at + 1) d (k - 1) ≡ search table at d k
-  find-next h f =
-      let e : k ≡ suc (k - 1) = omega arith in
-      ap (λ (n : ℕ). search table n d (k - 1)) (add-one at)
-      ∙ sym (ap (search table at d) e ∙ ap childOf (row-next table at d there (k - 1) (here ∙ h)))
-
-  pub find-deeper : suc d < x → search table (at + 1) d k ≡ search table at d k
-  find-deeper h = ap (λ (n : ℕ). search table n d k) (add-one at) ∙ sym (ap childOf (row-deeper table at d there k (omega (arith, here))))
-
 -- ---- a child that was found
 
 pub record Found (table : List ℕ) (d at k : ℕ) (c : Row) : Type 0 where
   pub there : c .row < length table / rowBytes
+  pub after : at ≤ c .row
   pub same : c ≡ rowAt table (c .row)
   pub resumes : (j : ℕ) → childAt d (drop at (rows table)) (k + j) ≡ childAt d (drop (c .row) (rows table)) j
 
 -- by the number of rows left
-found : (n : ℕ) (table : List ℕ) (d at k : ℕ) (c : Row) → length table / rowBytes ≤ n + at → childAt d (drop at (rows table)) k ≡ some c → Found table d at k c
+pub found : (n : ℕ) (table : List ℕ) (d at k : ℕ) (c : Row) → length table / rowBytes ≤ n + at → childAt d (drop at (rows table)) k ≡ some c → Found table d at k c
 unfolding rowAt
 found zero table d at k c h e =
     let z : _≡_ {A = ℕ} 0 1 = let none : childAt d (drop at (rows table)) k ≡ none = too-few table at d k (omega arith) in cc in
@@ -121,6 +90,7 @@ found (suc n) table d at k c h e = by-row (ltb at (length table / rowBytes)) (lt
         let number : at ≡ c .row = ap (λ (r : Row). r .row) same in
         record {
           there = omega arith;
+          after = omega arith;
           same = sym same ∙ ap (rowAt table) number;
           resumes = λ j. ap (λ (i : ℕ). childAt d (drop at (rows table)) i) (zero-add j) ∙ ap (λ (i : ℕ). childAt d (drop i (rows table)) j) number;
         }
@@ -130,6 +100,7 @@ found (suc n) table d at k c h e = by-row (ltb at (length table / rowBytes)) (lt
         let later = rest k (sym (row-next table at d there k deep) ∙ e) in
         record {
           there = later .there;
+          after = omega (arith, later .after);
           same = later .same;
           resumes = λ j. ap (λ (i : ℕ). childAt d (drop at (rows table)) i) (suc-add k j) ∙ row-next table at d there (k + j) deep ∙ later .resumes j;
         }
@@ -139,9 +110,70 @@ found (suc n) table d at k c h e = by-row (ltb at (length table / rowBytes)) (lt
         let later = rest k (sym (row-deeper table at d there k deep) ∙ e) in
         record {
           there = later .there;
+          after = omega (arith, later .after);
           same = later .same;
           resumes = λ j. row-deeper table at d there (k + j) deep ∙ later .resumes j;
         }
+
+-- ---- the same as the code has it, with the place of the child's first binding record
+
+abbrev search : List ℕ → ℕ → ℕ → ℕ → ℕ → Child
+search table at d k first = childFrom table at first (childAt d (drop at (rows table)) k)
+
+pub find-few : (table : List ℕ) (at d k first : ℕ) → length table / rowBytes - at ≤ k → child.Missing ≡ search table at d k first
+unfolding childFrom
+find-few table at d k first h = sym (ap (childFrom table at first) (too-few table at d k (omega arith)))
+
+pub find-none : (table : List ℕ) (at d k first : ℕ) → length table / rowBytes ≤ at → child.Missing ≡ search table at d k first
+find-none table at d k first h = find-few table at d k first (omega arith)
+
+-- from a later row, where the records of the rows between are counted in
+pub from-later : (table : List ℕ) (d i j k first next : ℕ) → i ≤ j → next ≡ (first + recordsBetween table i j) % 2 ^ 32 → search table j d k next ≡ childFrom table i first (childAt d (drop j (rows table)) k)
+unfolding childFrom
+from-later table d i j k first next h e = go (childAt d (drop j (rows table)) k) refl
+  where
+    go : (o : Option Row) → childAt d (drop j (rows table)) k ≡ o → childFrom table j next o ≡ childFrom table i first o
+    go none f = refl
+    go (some c) f =
+        let v = found (length table / rowBytes) table d j k c (omega arith) f in
+        let join = between-join table i j (c .row) h (v .after) in
+        let same : (next + recordsBetween table j (c .row)) % 2 ^ 32 ≡ (first + recordsBetween table i (c .row)) % 2 ^ 32 =
+        ap (λ (n : ℕ). (n + recordsBetween table j (c .row)) % 2 ^ 32) e
+        ∙ wrapped (first + recordsBetween table i j) (recordsBetween table j (c .row))
+        ∙ ap (λ (n : ℕ). n % 2 ^ 32) (omega arith) in
+        ap (child.Row (c .row)) same
+
+module _ (table : List ℕ) (at d k first x : ℕ) (there : at < length table / rowBytes) (depth : x ≡ fieldAt table at 0) where
+  here : rowAt table at .depth ≡ x
+  unfolding rowAt
+  here = sym depth
+
+  pub find-end : x ≤ d → child.Missing ≡ search table at d k first
+  unfolding childFrom
+  find-end h = sym (ap (childFrom table at first) (row-end table at d there k (omega (arith, here))))
+
+  pub find-found : first < 2 ^ 32 → x ≡ suc d → k ≡ 0 → child.Row at first ≡ search table at d k first
+  unfolding childFrom rowAt
+  find-found small h e =
+      let place : first ≡ (first + recordsBetween table at at) % 2 ^ 32 = omega (arith, none-between table at at (omega arith)) in
+      ap (child.Row at) place
+      ∙ sym (ap (λ (n : ℕ). search table at d n first) e ∙ ap (childFrom table at first) (row-found table at d there (here ∙ h)))
+
+  module _ (u next : ℕ) (own : u ≡ fieldAt table at 3) (e : next ≡ (first + u) % 2 ^ 32) where
+    step : (k : ℕ) → search table (at + 1) d k next ≡ childFrom table at first (childAt d (drop (suc at) (rows table)) k)
+    step k =
+        let one : recordsBetween table at (at + 1) ≡ u = omega (arith, own, between-next table at (at + 1) there (omega arith), none-between table (suc at) (at + 1) (omega arith)) in
+        from-later table d at (at + 1) k first next (omega arith) (e ∙ ap (λ (n : ℕ). (first + n) % 2 ^ 32) (sym one))
+        ∙ ap (λ (n : ℕ). childFrom table at first (childAt d (drop n (rows table)) k)) (add-one at)
+
+    pub find-next : x ≡ suc d → (k ≡ 0 → ⊥) → search table (at + 1) d (k - 1) next ≡ search table at d k first
+    find-next h f =
+        let e : k ≡ suc (k - 1) = omega arith in
+        step (k - 1)
+        ∙ sym (ap (λ (n : ℕ). search table at d n first) e ∙ ap (childFrom table at first) (row-next table at d there (k - 1) (here ∙ h)))
+
+    pub find-deeper : suc d < x → search table (at + 1) d k next ≡ search table at d k first
+    find-deeper h = step k ∙ sym (ap (childFrom table at first) (row-deeper table at d there k (omega (arith, here))))
 
 -- ---- a row that is a child by its depth
 
@@ -174,47 +206,64 @@ module _ (table : List ℕ) (row d : ℕ) where
 -- ---- the children of the prototype in a row
 
 module _ (table : List ℕ) (parent : ℕ) where
-  -- child k stands in row r
-  pub record FoundChild (k r : ℕ) : Type 0 where
+  abbrev child-of : ℕ → Child
+  child-of k = childFrom table (suc parent) 0 (childOfRow table parent k)
+
+  -- child k stands in row r, and so many binding records before its own
+  pub record FoundChild (k r first : ℕ) : Type 0 where
     pub there : r < length table / rowBytes
+    pub later : parent < r
+    pub counts : first ≡ recordsBetween table (suc parent) r % 2 ^ 32
+    pub before : first ≡ recordsBefore table parent (childOfRow table parent k)
     pub upvalues : getD (protoIn table parent [] .children) k 0 ≡ fieldAt table r 3
     pub resumes : (j : ℕ) → childOfRow table parent (k + j) ≡ childAt (rowAt table parent .depth) (drop r (rows table)) j
 
-  pub found-child : (k r : ℕ) → child.Row r ≡ childOf (childOfRow table parent k) → FoundChild k r
-  unfolding childOf childOfRow protoIn rowAt
-  found-child k r e = go (childOfRow table parent k) refl e
+  pub found-child : (k r first : ℕ) → child.Row r first ≡ child-of k → FoundChild k r first
+  unfolding childFrom childOfRow protoIn rowAt recordsBefore
+  found-child k r first e = go (childOfRow table parent k) refl e
     where
-      go : (o : Option Row) → childOfRow table parent k ≡ o → child.Row r ≡ childOf o → FoundChild k r
+      go : (o : Option Row) → childOfRow table parent k ≡ o → child.Row r first ≡ childFrom table (suc parent) 0 o → FoundChild k r first
       go none f e = let z : _≡_ {A = ℕ} 0 1 = cc in absurd (omega arith)
       go (some c) f e =
           let number : c .row ≡ r = cc in
+          let place : first ≡ (0 + recordsBetween table (suc parent) (c .row)) % 2 ^ 32 = cc in
+          let count : first ≡ recordsBetween table (suc parent) (c .row) % 2 ^ 32 = place ∙ ap (λ (n : ℕ). n % 2 ^ 32) (zero-add (recordsBetween table (suc parent) (c .row))) in
           let v = found (length table / rowBytes) table (rowAt table parent .depth) (suc parent) k c (omega arith) f in
           record {
             there = omega (arith, v .there);
+            later = omega (arith, v .after);
+            counts = count ∙ ap (λ (n : ℕ). recordsBetween table (suc parent) n % 2 ^ 32) number;
+            before = count ∙ sym (ap (recordsBefore table parent) f);
             upvalues = child-upvalues (rowAt table parent) (drop (suc parent) (rows table)) [] k c f ∙ ap (λ (x : Row). x .upvalues) (v .same) ∙ ap (λ (n : ℕ). fieldAt table n 3) number;
             resumes = λ j. v .resumes j ∙ ap (λ (n : ℕ). childAt (rowAt table parent .depth) (drop n (rows table)) j) number;
           }
 
-  missing : (k : ℕ) → child.Missing ≡ childOf (childOfRow table parent k) → childOfRow table parent k ≡ none
-  unfolding childOf
+  missing : (k : ℕ) → child.Missing ≡ child-of k → childOfRow table parent k ≡ none
+  unfolding childFrom
   missing k e = go (childOfRow table parent k) e
     where
-      go : (o : Option Row) → child.Missing ≡ childOf o → o ≡ none
+      go : (o : Option Row) → child.Missing ≡ childFrom table (suc parent) 0 o → o ≡ none
       go none e = refl
       go (some c) e = let z : _≡_ {A = ℕ} 0 1 = cc in absurd (omega arith)
 
   -- a missing child has no upvalues
-  pub missing-child : (k : ℕ) → child.Missing ≡ childOf (childOfRow table parent k) → 0 ≡ getD (protoIn table parent [] .children) k 0
-  unfolding childOfRow protoIn
-  missing-child k e = sym (List·getD-eq-default (protoIn table parent [] .children) 0 (child-missing (rowAt table parent) (drop (suc parent) (rows table)) [] k (missing k e)))
+  pub missing-child : (k : ℕ) → child.Missing ≡ child-of k → Bindings 0 0 ≡ childBindings table parent k
+  unfolding childOfRow protoIn childBindings recordsBefore
+  missing-child k e =
+      let none-there = missing k e in
+      let zero-of : 0 ≡ getD (protoIn table parent [] .children) k 0 =
+      sym (List·getD-eq-default (protoIn table parent [] .children) 0 (child-missing (rowAt table parent) (drop (suc parent) (rows table)) [] k none-there)) in
+      ap (λ (n : ℕ). Bindings n 0) zero-of ∙ ap (λ (o : Option Row). Bindings (getD (protoIn table parent [] .children) k 0) (recordsBefore table parent o)) (sym none-there)
 
   -- ---- the cursor
 
   -- the search begins right after the row
-  pub begins : (n : ℕ) → n ≡ length table / rowBytes → Tracks table parent (record { index = 0; row = parent + 1; end = n })
+  pub begins : (n : ℕ) → n ≡ length table / rowBytes → Tracks table parent (record { index = 0; row = parent + 1; first = 0; end = n })
   unfolding childOfRow
   begins n e =
       record {
+        later = omega arith;
+        counts = omega (arith, none-between table (suc parent) (parent + 1) (omega arith));
         resumes = λ k. rw (zero-add, add-one);
         ends = λ k h. too-few table (suc parent) (rowAt table parent .depth) k (omega arith);
       }
@@ -224,39 +273,44 @@ module _ (table : List ℕ) (parent : ℕ) where
   unmoved u v e h = subst⁻¹ (Tracks table parent) e h
 
   -- past the end
-  pub past-end : (u : Cursor) (k : ℕ) → Tracks table parent u → u .end ≤ k → child.Missing ≡ childOf (childOfRow table parent k)
-  unfolding childOf
-  past-end u k v h = sym (ap childOf (v .ends k h))
+  pub past-end : (u : Cursor) (k : ℕ) → Tracks table parent u → u .end ≤ k → child.Missing ≡ child-of k
+  unfolding childFrom
+  past-end u k v h = sym (ap (childFrom table (suc parent) 0) (v .ends k h))
 
   -- it is moved to a child that was found, or a child was missed
-  pub moved : (u : Cursor) (k r : ℕ) → Tracks table parent u → FoundChild k r → Tracks table parent (record { index = k; row = r; end = u .end })
-  moved u k r v f = record { resumes = f .resumes; ends = v .ends }
+  pub moved : (u : Cursor) (k r first : ℕ) → Tracks table parent u → FoundChild k r first → Tracks table parent (record { index = k; row = r; first = first; end = u .end })
+  moved u k r first v f = record { later = f .later; counts = f .counts; resumes = f .resumes; ends = v .ends }
 
-  pub missed : (u : Cursor) (k : ℕ) → Tracks table parent u → child.Missing ≡ childOf (childOfRow table parent k) → Tracks table parent (record { index = u .index; row = u .row; end = k })
+  pub missed : (u : Cursor) (k : ℕ) → Tracks table parent u → child.Missing ≡ child-of k → Tracks table parent (record { index = u .index; row = u .row; first = u .first; end = k })
   unfolding childOfRow childAt
   missed u k v e =
       record {
+        later = v .later;
+        counts = v .counts;
         resumes = v .resumes;
         ends = λ j h. element-past-end (children (rowAt table parent .depth) (drop (suc parent) (rows table))) j (omega (arith, element-missing (children (rowAt table parent .depth) (drop (suc parent) (rows table))) k (missing k e)));
       }
 
   -- it begins anew, or is resumed
-  pub anew : (k d : ℕ) (c : Child) → d ≡ fieldAt table parent 0 → c ≡ search table (parent + 1) d k → c ≡ childOf (childOfRow table parent k)
+  pub anew : (k d : ℕ) (c : Child) → d ≡ fieldAt table parent 0 → c ≡ search table (parent + 1) d k 0 → c ≡ child-of k
   unfolding childOfRow rowAt
   anew k d c e f = f ∙ rw (e, add-one)
 
-  pub resumed : (u : Cursor) (k d : ℕ) (c : Child) → Tracks table parent u → u .index ≤ k → d ≡ fieldAt table parent 0 → c ≡ search table (u .row) d (k - u .index) → c ≡ childOf (childOfRow table parent k)
+  pub resumed : (u : Cursor) (k d : ℕ) (c : Child) → Tracks table parent u → u .index ≤ k → d ≡ fieldAt table parent 0 → c ≡ search table (u .row) d (k - u .index) (u .first) → c ≡ child-of k
   unfolding rowAt
   resumed u k d c v h e f =
       let whole : u .index + (k - u .index) ≡ k = omega arith in
+      let place : u .first ≡ (0 + recordsBetween table (suc parent) (u .row)) % 2 ^ 32 = v .counts ∙ ap (λ (n : ℕ). n % 2 ^ 32) (sym (zero-add (recordsBetween table (suc parent) (u .row)))) in
       f
-      ∙ ap (λ (n : ℕ). search table (u .row) n (k - u .index)) e
-      ∙ sym (ap childOf (ap (childOfRow table parent) (sym whole) ∙ v .resumes (k - u .index)))
+      ∙ ap (λ (n : ℕ). search table (u .row) n (k - u .index) (u .first)) e
+      ∙ from-later table (rowAt table parent .depth) (suc parent) (u .row) (k - u .index) 0 (u .first) (v .later) place
+      ∙ sym (ap (childFrom table (suc parent) 0) (ap (childOfRow table parent) (sym whole) ∙ v .resumes (k - u .index)))
 
   -- the child last found is named again
-  pub named-again : (u : Cursor) (k d : ℕ) (r : Bool) → Tracks table parent u → k ≡ u .index → d ≡ fieldAt table parent 0 → r ≡ isChild table (u .row) d → r ≡ true → child.Row (u .row) ≡ childOf (childOfRow table parent k)
-  unfolding childOf rowAt
+  pub named-again : (u : Cursor) (k d : ℕ) (r : Bool) → Tracks table parent u → k ≡ u .index → d ≡ fieldAt table parent 0 → r ≡ isChild table (u .row) d → r ≡ true → child.Row (u .row) (u .first) ≡ child-of k
+  unfolding childFrom rowAt
   named-again u k d r v same e f t =
       let whole : k ≡ u .index + 0 = omega arith in
       let here = child-here table (u .row) (rowAt table parent .depth) (ap (isChild table (u .row)) (sym e) ∙ sym f ∙ t) in
-      sym (ap childOf (ap (childOfRow table parent) whole ∙ v .resumes 0 ∙ here))
+      let place : u .first ≡ (0 + recordsBetween table (suc parent) (u .row)) % 2 ^ 32 = v .counts ∙ ap (λ (n : ℕ). n % 2 ^ 32) (sym (zero-add (recordsBetween table (suc parent) (u .row)))) in
+      ap (child.Row (u .row)) place ∙ sym (ap (childFrom table (suc parent) 0) (ap (childOfRow table parent) whole ∙ v .resumes 0 ∙ here))

@@ -10,7 +10,7 @@ use borrow.Author.Tests.{ltb-false}
 use Rattle.opcodes.specs.Bytes.{i32Record}
 use Rattle.roles.specs.Table.{rows, protos}
 use Rattle.roles.specs.Roles.{roles, roleFields, recordsOf}
-use Rattle.roles.specs.Bindings.{bindingFields}
+use Rattle.roles.specs.Bindings.{bindingFields, bindingBytes, bindingRecords}
 use Rattle.roles.specs.Refusals.{Refused, tooShort, rolesRefusal, wordTotal}
 use Rattle.roles.specs.Calls.{answer, accepted, filled, rolesAfter, imageBindings, bindingsRefusal, bindingsAfter}
 use Rattle.opcodes.proofs.ByteLaws.{length-i32Record, overwrite-front}
@@ -59,8 +59,8 @@ roles-written table words old e =
 -- ---- the bindings buffer: three i32 a record
 
 pub bindings-written : (table words old : List ℕ) (roleLength : ℕ) → bindingsRefusal table words roleLength (length old) ≡ none
-    → bindingsAfter table words roleLength old ≡ i32Record (flatMap bindingFields (imageBindings table words)) ++ drop (12 * length (imageBindings table words)) old
-unfolding bindingsAfter bindingsRefusal bindingFields
+    → bindingsAfter table words roleLength old ≡ bindingRecords (imageBindings table words) ++ drop (bindingBytes * length (imageBindings table words)) old
+unfolding bindingsAfter bindingsRefusal bindingFields bindingRecords
 bindings-written table words old roleLength e =
     let bs = imageBindings table words in
     let zs = flatMap bindingFields bs in

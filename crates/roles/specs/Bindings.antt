@@ -5,6 +5,7 @@ use mathlib.Core.Option.{Option, none, some}
 use lib.ListN.{length, take, drop, set, replicate}
 use lib.IntN.{ℤ, pos, negsuc}
 use Rattle.opcodes.specs.Lists.{only, upFrom, total}
+use Rattle.opcodes.specs.Bytes.{i32Record}
 use Rattle.opcodes.specs.Words.{is, operand, B, fieldBx, MOVE, GETUPVAL}
 use Rattle.roles.specs.Table.{Row, Proto, childAt, protoOf}
 use Rattle.roles.specs.Roles.{wordAt, bindingWords}
@@ -23,17 +24,19 @@ unbound = record { instack = 0; idx = 0; pc = negsuc 0 }
 unfoldable pub bindingIndex : ℕ → ℕ
 bindingIndex w = operand B w % 256
 
+-- what a binding word at pc says: "MOVE gives 1, GETUPVAL gives 0, with B modulo 256"; another opcode says nothing
+unfoldable pub bindingOf : ℕ → ℕ → List Binding
+bindingOf pc w = map (λ s. record { instack = s; idx = bindingIndex w; pc = pos pc }) (only (is w (MOVE ∷ [])) 1 ++ only (is w (GETUPVAL ∷ [])) 0)
+
 -- that upvalue `upvalue` of child `child` is bound so
 pub record Write : Type 0 where
   pub child : ℕ
   pub upvalue : ℕ
   pub binding : Binding
 
--- "existing companion j of its child sets binding j: MOVE gives 1, GETUPVAL gives 0, with B modulo 256; another opcode leaves it"
+-- "existing companion j of its child sets binding j"; "another opcode leaves it"
 unfoldable pub writeOf : ℕ → ℕ → ℕ → ℕ → List Write
-writeOf child j pc w =
-    map (λ s. record { child = child; upvalue = j; binding = record { instack = s; idx = bindingIndex w; pc = pos pc } })
-    (only (is w (MOVE ∷ [])) 1 ++ only (is w (GETUPVAL ∷ [])) 0)
+writeOf child j pc w = map (λ b. record { child = child; upvalue = j; binding = b }) (bindingOf pc w)
 
 -- the writes of the word at pc: of "each executable CLOSURE"
 unfoldable pub writesAt : Proto → ℕ → List Write
@@ -72,3 +75,11 @@ bindings rs words = bindRows rs rs words (replicate (bindingTotal rs) unbound)
 -- "Three i32"
 unfoldable pub bindingFields : Binding → List ℤ
 bindingFields b = pos (b .instack) ∷ pos (b .idx) ∷ b .pc ∷ []
+
+-- the length of such a record in bytes
+abbrev pub bindingBytes : ℕ
+bindingBytes = 12
+
+-- the records of bindings, end to end, as bytes
+unfoldable pub bindingRecords : List Binding → List ℕ
+bindingRecords bs = i32Record (flatMap bindingFields bs)

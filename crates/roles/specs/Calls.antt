@@ -4,10 +4,10 @@ use Prim.Native.Nat.{ℕ}
 use mathlib.Core.List.{List, flatMap}
 use mathlib.Core.Option.{Option, none, some}
 use lib.ListN.{length}
-use Rattle.opcodes.specs.Bytes.{i32Record, u32s, overwrite}
+use Rattle.opcodes.specs.Bytes.{u32s, overwrite}
 use Rattle.roles.specs.Table.{rows, protos}
 use Rattle.roles.specs.Roles.{roles, recordsOf}
-use Rattle.roles.specs.Bindings.{Binding, bindings, bindingFields}
+use Rattle.roles.specs.Bindings.{Binding, bindings, bindingBytes, bindingRecords}
 use Rattle.roles.specs.Refusals.{Refused, orElse, rolesRefusal, tooShort, wordTotal}
 
 -- a call's answer: a refusal, or its result
@@ -44,7 +44,7 @@ imageBindings table words = bindings (rows table) (u32s words)
 -- 8 where the records do not fit
 unfoldable pub bindingsRefusal : List ℕ → List ℕ → ℕ → ℕ → Option Refused
 bindingsRefusal table words roleLength bindingLength =
-    orElse (rolesRefusal table words roleLength) (tooShort (length (imageBindings table words)) 12 bindingLength)
+    orElse (rolesRefusal table words roleLength) (tooShort (length (imageBindings table words)) bindingBytes bindingLength)
 
 -- "the number of records"
 unfoldable pub bindingsAnswer : List ℕ → List ℕ → ℕ → ℕ → Answer ℕ
@@ -54,4 +54,4 @@ bindingsAnswer table words roleLength bindingLength =
 -- the bindings buffer after the call
 unfoldable pub bindingsAfter : List ℕ → List ℕ → ℕ → List ℕ → List ℕ
 bindingsAfter table words roleLength bindings =
-    filled (bindingsRefusal table words roleLength (length bindings)) bindings (i32Record (flatMap bindingFields (imageBindings table words)))
+    filled (bindingsRefusal table words roleLength (length bindings)) bindings (bindingRecords (imageBindings table words))

@@ -11,14 +11,15 @@ use opcodes::bytes::read_u32;
 ghost use mathlib.Core.Bool.{cond};
 ghost use mathlib.Core.Path.{_≡_};
 ghost use lib.Dec.{eqb};
-ghost use Prim.Native.Nat.{_+_, _*_, _/_, _<_, _≤_};
+ghost use Prim.Native.Nat.{_+_, _-_, _*_, _/_, _<_, _≤_};
+ghost use mathlib.Core.List.{_∷_};
 ghost use lib.ListN.{length, take};
-ghost use Rattle.opcodes.specs.Bytes.{overwrite, u32s};
+ghost use Rattle.opcodes.specs.Bytes.{overwrite, u32At, u32s};
 ghost use Rattle.opcodes.specs.Lists.{tabulate};
-ghost use Rattle.roles.specs.Contracts.{Tracks, childBindings, claimedRoles, companionsOf, protoIn};
+ghost use Rattle.roles.specs.Contracts.{Tracks, childBindings, claimedRoles, companionsOf, existingRoles, protoIn};
 ghost use Rattle.roles.specs.declared.discovery.Companions.the-variants.{Extra, None};
 ghost use Rattle.roles.specs.Refusals.{maxRows, maxWordBytes};
-ghost use Rattle.roles.specs.Roles.{ClosureBinding, recordsOf, roleBytes, roles};
+ghost use Rattle.roles.specs.Roles.{ClosureBinding, Instruction, recordsOf, roleBytes, roles};
 ghost use Rattle.roles.specs.Table.{rowAt, rowBytes};
 
 // The opcodes that own words, by their numbers (docs/DECISIONS.md says why not by `Opcode51`).
@@ -26,10 +27,11 @@ const CLOSURE: u8 = 36;
 
 const SETLIST: u8 = 34;
 
-// The words that an executable word owns: none, those that bind a child's upvalues, or a SETLIST's extra word.
+// The words that an executable word owns: none, those that bind a child's upvalues, or a SETLIST's extra word. Bindings have their number, and
+// how many binding records stand between the prototype's own and those of the child.
 pub enum Companions {
     None,
-    Bindings(u32),
+    Bindings(u32, u32),
     Extra,
 }
 
@@ -37,6 +39,13 @@ pub enum Companions {
 pub struct Claim {
     pub cursor: Cursor,
     pub companions: Companions,
+}
+
+// What an executable word owned, how many of these words exist, and the cursor after it.
+pub struct Owner {
+    pub cursor: Cursor,
+    pub companions: Companions,
+    pub existing: usize,
 }
 
 // Writes the roles of a row's words to the front of its part of the buffer. Each word is looked at once: an owner marks its companions, as
@@ -47,19 +56,54 @@ pub fn discover_roles_lua51(protos: &[u8], row: usize, code: &[u8], out: &mut [u
     requires { ⌜ (length (now code) ≤ maxWordBytes) × (2 * length (now code) ≤ length (now out)) ⌝ }
     ensures { λ _. ⌜ now (out .exit) ≡ overwrite (now (out .entry)) 0 (recordsOf (roles (protoIn (now (protos .entry)) row (u32s (now (code .entry)))))) ⌝ }
 {
-    let n = code.len() / 4;
-    let mut cursor = Cursor {
+    let mut cursor = first_child(protos, row);
+    let mut pc = 0;
+    while pc < code.len() / 4 {
+        let owner = mark_owner(protos, row, cursor, code, pc, out);
+        cursor = owner.cursor;
+        pc += 1 + owner.existing;
+    }
+}
+
+// The cursor before the first child of a row.
+pub fn first_child(protos: &[u8], row: usize) -> Cursor
+    requires { ⌜ (rowBytes * row + rowBytes ≤ length (now protos)) × (length (now protos) / rowBytes ≤ maxRows) ⌝ }
+    ensures { λ r. ⌜ Tracks (now (protos .entry)) row r ⌝ }
+{
+    Cursor {
         index: 0,
         row: row + 1,
+        first: 0,
         end: (protos.len() / ROW_BYTES) as u32,
-    };
-    let mut pc = 0;
-    while pc < n {
-        let claim = claim_of(protos, row, cursor, read_u32(code, 4 * pc));
-        cursor = claim.cursor;
-        write_role(out, pc, Lua51PhysicalRole::Instruction);
-        let companions = claim.companions;
-        pc += 1 + mark(out, pc, n - pc - 1, companions);
+    }
+}
+
+// Marks the executable word at pc and its companions, as far as they exist.
+pub fn mark_owner(
+    protos: &[u8],
+    row: usize,
+    cursor: Cursor,
+    code: &[u8],
+    pc: usize,
+    out: &mut [u8],
+) -> Owner
+    requires { ⌜ (rowBytes * row + rowBytes ≤ length (now protos)) × (pc < length (now code) / 4) ⌝ }
+    requires { ⌜ Tracks (now protos) row cursor ⌝ }
+    requires { ⌜ (length (now code) ≤ maxWordBytes) × (2 * length (now code) ≤ length (now out)) ⌝ }
+    ensures { λ r. ⌜ (r .companions ≡ companionsOf (now (protos .entry)) row (u32At (now (code .entry)) (4 * pc))) × Tracks (now (protos .entry)) row (r .cursor) ⌝ }
+    ensures { λ r. ⌜ r .existing ≡ length (existingRoles (length (now (code .entry)) / 4) pc (r .companions)) ⌝ }
+    ensures { λ r. ⌜ now (out .exit) ≡ overwrite (now (out .entry)) (roleBytes * pc) (recordsOf (Instruction ∷ existingRoles (length (now (code .entry)) / 4) pc (r .companions))) ⌝ }
+    ensures { λ r. ⌜ r .existing < length (now (code .entry)) / 4 - pc ⌝ }
+{
+    let claim = claim_of(protos, row, cursor, read_u32(code, 4 * pc));
+    write_role(out, pc, Lua51PhysicalRole::Instruction);
+    let cursor = claim.cursor;
+    let companions = claim.companions;
+    let existing = mark(out, pc, code.len() / 4 - pc - 1, companions);
+    Owner {
+        cursor,
+        companions,
+        existing,
     }
 }
 
@@ -96,11 +140,11 @@ fn claim_child(protos: &[u8], row: usize, cursor: Cursor, k: u32) -> Claim
     match child {
         Child::Missing => Claim {
             cursor,
-            companions: Companions::Bindings(0),
+            companions: Companions::Bindings(0, 0),
         },
-        Child::Row(child) => Claim {
+        Child::Row(child, first) => Claim {
             cursor,
-            companions: Companions::Bindings(field(protos, child, UPVALUES)),
+            companions: Companions::Bindings(field(protos, child, UPVALUES), first),
         },
     }
 }
@@ -131,7 +175,7 @@ fn mark(out: &mut [u8], pc: usize, room: usize, companions: Companions) -> usize
 {
     match companions {
         Companions::None => 0,
-        Companions::Bindings(n) => {
+        Companions::Bindings(n, _) => {
             if (n as usize) < room {
                 mark_bindings(out, pc, n as usize)
             } else {

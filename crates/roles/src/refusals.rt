@@ -1,4 +1,4 @@
-// Refusals 1 to 7, the least number first. Nothing is written before they are excluded.
+// Refusals 1 to 7, the least number first. Nothing is written before they are excluded. Refusal 8 is for the calls to give.
 use crate::role::ROLE_BYTES;
 use crate::table::CONSTANTS;
 use crate::table::DEPTH;
@@ -9,12 +9,12 @@ use crate::table::WORDS;
 use crate::table::field;
 ghost use mathlib.Core.Bool.{_||_};
 ghost use mathlib.Core.Path.{_≡_};
-ghost use Prim.Native.Nat.{_+_, _*_, _/_, _^_, _≤_};
+ghost use Prim.Native.Nat.{_+_, _*_, _/_, _^_, _<_, _≤_};
 ghost use lib.Dec.{ltb};
 ghost use lib.ListN.{length};
-ghost use Rattle.roles.specs.Contracts.{givenRefusal};
-ghost use Rattle.roles.specs.Refusals.{badDepth, badField, depthFits, fieldsFit, imageRefusal, maxRows, maxWordBytes, rolesRefusal, wordTotal};
-ghost use Rattle.roles.specs.Table.{rowAt, rowBytes, rows};
+ghost use Rattle.roles.specs.Contracts.{fieldTotal, givenRefusal};
+ghost use Rattle.roles.specs.Refusals.{badDepth, badField, depthFits, fieldsFit, imageRefusal, maxRows, maxWordBytes, rolesRefusal};
+ghost use Rattle.roles.specs.Table.{rowAt, rowBytes, rowFields, rows};
 
 pub const MAX_PROTOS: usize = 16384;
 
@@ -28,7 +28,7 @@ pub const MAX_UPVALUES: u32 = 255;
 
 pub const MAX_STACK: u32 = 255;
 
-// Why a call is refused. BadDepth and FieldOverLimit have the first such row.
+// Why a call is refused. BadDepth and FieldOverLimit have the first such row, BufferTooShort the number of records needed.
 pub enum Refusal {
     NoProtos,
     PartialRow,
@@ -37,6 +37,7 @@ pub enum Refusal {
     FieldOverLimit(u32),
     WordCountMismatch,
     RoleBufferTooShort,
+    BufferTooShort(u32),
 }
 
 // Whether an image is refused.
@@ -77,7 +78,7 @@ pub fn check_image(protos: &[u8], words: &[u8]) -> Acceptance
     if let Acceptance::Refused(refusal) = check_fields(protos) {
         return Acceptance::Refused(refusal);
     }
-    if words.len() as u64 != 4 * word_total(protos) {
+    if words.len() as u64 != 4 * field_total(protos, WORDS) {
         return Acceptance::Refused(Refusal::WordCountMismatch);
     }
     Acceptance::Accepted
@@ -156,17 +157,17 @@ fn fields_fit(protos: &[u8], row: usize) -> bool
     field(protos, row, STACK) <= MAX_STACK
 }
 
-// The words that the rows state. Each states less than 2^32, so that the sum fits.
-fn word_total(protos: &[u8]) -> u64
-    requires { ⌜ length (now protos) / rowBytes ≤ maxRows ⌝ }
-    ensures { λ r. ⌜ r ≡ wordTotal (rows (now (protos .entry))) ⌝ }
+// The sum of a field over the rows. Each is less than 2^32, so that it fits.
+pub fn field_total(protos: &[u8], k: usize) -> u64
+    requires { ⌜ (length (now protos) / rowBytes ≤ maxRows) × (k < rowFields) ⌝ }
+    ensures { λ r. ⌜ r ≡ fieldTotal (now (protos .entry)) k ⌝ }
     ensures { λ r. ⌜ r ≤ 2 ^ 46 ⌝ }
 {
     let rows = protos.len() / ROW_BYTES;
     let mut total: u64 = 0;
     let mut row = 0;
     while row < rows {
-        total += field(protos, row, WORDS) as u64;
+        total += field(protos, row, k) as u64;
         row += 1;
     }
     total

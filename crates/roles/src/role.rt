@@ -13,7 +13,7 @@ ghost use Rattle.roles.specs.Roles.{recordsOf, roleBytes};
 pub const ROLE_BYTES: usize = 8;
 
 // The bits of -1: no owner, no index.
-const NONE: u32 = 0xffff_ffff;
+pub const NONE: u32 = 0xffff_ffff;
 
 // An executable word; a CLOSURE's binding word, with its pc and the upvalue's index; a SETLIST's extra word, with its pc.
 pub enum Lua51PhysicalRole {

@@ -5,15 +5,17 @@ use crate::table::ROW_BYTES;
 use crate::table::field;
 use crate::table::find_child;
 ghost use mathlib.Core.Path.{_≡_};
-ghost use Prim.Native.Nat.{_+_, _*_, _≤_};
+ghost use Prim.Native.Nat.{_+_, _*_, _≤_, suc};
 ghost use lib.ListN.{length};
-ghost use Rattle.roles.specs.Contracts.{Tracks, childOf, childOfRow, isChild};
+ghost use Rattle.roles.specs.Contracts.{Tracks, childFrom, childOfRow, isChild};
 ghost use Rattle.roles.specs.Table.{rowBytes};
 
-// Child `index` of the prototype is child 0 of those from row `row` on. There is no child of number `end` or above.
+// Child `index` of the prototype is child 0 of those from row `row` on, and `first` binding records stand between the prototype's own and
+// those of that row. There is no child of number `end` or above.
 pub struct Cursor {
     pub index: u32,
     pub row: usize,
+    pub first: u32,
     pub end: u32,
 }
 
@@ -28,7 +30,7 @@ impl Cursor {
     pub fn find(self, protos: &[u8], parent: usize, k: u32) -> Found
         requires { ⌜ rowBytes * parent + rowBytes ≤ length (now protos) ⌝ }
         requires { ⌜ Tracks (now protos) parent self ⌝ }
-        ensures { λ r. ⌜ r .child ≡ childOf (childOfRow (now (protos .entry)) parent k) ⌝ }
+        ensures { λ r. ⌜ r .child ≡ childFrom (now (protos .entry)) (suc parent) 0 (childOfRow (now (protos .entry)) parent k) ⌝ }
         ensures { λ r. ⌜ Tracks (now (protos .entry)) parent (r .cursor) ⌝ }
     {
         if self.end <= k {
@@ -42,11 +44,12 @@ impl Cursor {
                 child: Child::Missing,
                 cursor: Cursor { end: k, ..self },
             },
-            Child::Row(row) => Found {
-                child: Child::Row(row),
+            Child::Row(row, first) => Found {
+                child: Child::Row(row, first),
                 cursor: Cursor {
                     index: k,
                     row,
+                    first,
                     ..self
                 },
             },
@@ -57,18 +60,18 @@ impl Cursor {
     fn search(self, protos: &[u8], parent: usize, k: u32) -> Child
         requires { ⌜ rowBytes * parent + rowBytes ≤ length (now protos) ⌝ }
         requires { ⌜ Tracks (now protos) parent self ⌝ }
-        ensures { λ r. ⌜ r ≡ childOf (childOfRow (now (protos .entry)) parent k) ⌝ }
+        ensures { λ r. ⌜ r ≡ childFrom (now (protos .entry)) (suc parent) 0 (childOfRow (now (protos .entry)) parent k) ⌝ }
     {
         let depth = field(protos, parent, DEPTH);
         if k < self.index {
-            return find_child(protos, parent + 1, depth, k);
+            return find_child(protos, parent + 1, depth, k, 0);
         }
         if k == self.index {
             if is_child(protos, self.row, depth) {
-                return Child::Row(self.row);
+                return Child::Row(self.row, self.first);
             }
         }
-        find_child(protos, self.row, depth, k - self.index)
+        find_child(protos, self.row, depth, k - self.index, self.first)
     }
 }
 

@@ -1,9 +1,10 @@
 // The prototype table: rows of five u32, in preorder.
 use opcodes::bytes::read_u32;
+use std::num::wrapping_add_u32;
 ghost use mathlib.Core.Path.{_≡_};
 ghost use Prim.Native.Nat.{_+_, _*_, _<_, _≤_};
 ghost use lib.ListN.{drop, length};
-ghost use Rattle.roles.specs.Contracts.{childOf};
+ghost use Rattle.roles.specs.Contracts.{childFrom};
 ghost use Rattle.roles.specs.Table.{childAt, fieldAt, rowBytes, rowFields, rows};
 
 // The length of a row in bytes.
@@ -20,9 +21,9 @@ pub const UPVALUES: usize = 3;
 
 pub const STACK: usize = 4;
 
-// The row of a child, or that there is none.
+// The row of a child and the place of its first binding record, or that there is none.
 pub enum Child {
-    Row(usize),
+    Row(usize, u32),
     Missing,
 }
 
@@ -34,9 +35,10 @@ pub fn field(protos: &[u8], row: usize, k: usize) -> u32
     read_u32(protos, ROW_BYTES * row + 4 * k)
 }
 
-// Child k of a row of this depth, among the rows from `at` on. The rows left fall with each call.
-pub fn find_child(protos: &[u8], at: usize, depth: u32, k: u32) -> Child
-    ensures { λ r. ⌜ r ≡ childOf (childAt depth (drop at (rows (now (protos .entry)))) k) ⌝ }
+// Child k of a row of this depth, among the rows from `at` on. The rows left fall with each call. The place of its first binding record is
+// counted on from `first`, that of row `at` (modulo 2^32, which the records of an accepted table do not reach).
+pub fn find_child(protos: &[u8], at: usize, depth: u32, k: u32, first: u32) -> Child
+    ensures { λ r. ⌜ r ≡ childFrom (now (protos .entry)) at first (childAt depth (drop at (rows (now (protos .entry)))) k) ⌝ }
 {
     let rows = protos.len() / ROW_BYTES;
     if rows <= at {
@@ -49,11 +51,12 @@ pub fn find_child(protos: &[u8], at: usize, depth: u32, k: u32) -> Child
     if d <= depth {
         return Child::Missing;
     }
+    let next = wrapping_add_u32(first, field(protos, at, UPVALUES));
     if d - depth == 1 {
         if k == 0 {
-            return Child::Row(at);
+            return Child::Row(at, first);
         }
-        return find_child(protos, at + 1, depth, k - 1);
+        return find_child(protos, at + 1, depth, k - 1, next);
     }
-    find_child(protos, at + 1, depth, k)
+    find_child(protos, at + 1, depth, k, next)
 }

@@ -14,7 +14,7 @@ use Rattle.opcodes.specs.Words.{is, B, C}
 use Rattle.roles.specs.Table.{Row, rows, Proto, protos}
 use Rattle.roles.specs.Roles.{Instruction, isExecutable, Executable, bindingCount, hasExtra, claims, rolesFrom, roles, roleAt, wordAt, executableAt, owned, existing, companions, isTruncated, bindingWords, recordsOf}
 use Rattle.opcodes.specs.Bytes.{i32Record}
-use Rattle.roles.specs.Bindings.{bindingFields}
+use Rattle.roles.specs.Bindings.{bindingBytes, bindingRecords}
 use Rattle.roles.specs.Refusals.{Refused, wordTotal}
 use Rattle.roles.specs.Calls.{accepted, refused, rolesAnswer, rolesAfter, imageBindings, bindingsRefusal, bindingsAnswer, bindingsAfter}
 use Rattle.validator.specs.Operands.{isUnknown, isBinding, target, isJump, isSkip, isLoadboolSkip, constantBx, upvalueB, flagA, registerA, spanEnds, registerIn, constantIn, childBx}
@@ -146,7 +146,7 @@ unfolding rolesAnswer
 roles-call-accepted table words roleBuffer n e = roles-written table words roleBuffer (accepted-none _ _ n e)
 
 pub bindings-call-accepted : (table words roleBuffer bindings : List ℕ) (n : ℕ) → bindingsAnswer table words (length roleBuffer) (length bindings) ≡ accepted n
-    → (bindingsAfter table words (length roleBuffer) bindings ≡ i32Record (flatMap bindingFields (imageBindings table words)) ++ drop (12 * length (imageBindings table words)) bindings)
+    → (bindingsAfter table words (length roleBuffer) bindings ≡ bindingRecords (imageBindings table words) ++ drop (bindingBytes * length (imageBindings table words)) bindings)
     × (rolesAfter table words roleBuffer ≡ recordsOf (flatMap roles (protos table words)) ++ drop (8 * wordTotal (rows table)) roleBuffer)
 unfolding bindingsAnswer bindingsRefusal
 bindings-call-accepted table words roleBuffer bindings n e =

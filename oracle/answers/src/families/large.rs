@@ -149,10 +149,15 @@ fn add_limit(list: &mut List) {
     list.push("most", EXACT, image(&fan(&[closure(0, 0)], &Source::main(0, 1, 251, &[closure(0, 0)]), 6_000)));
 }
 
+/// A CLOSURE of a child of 255 upvalues, and its binding words.
+fn bind_whole(child: u32) -> Vec<u32> {
+    let bind = |j: u32| if j % 2 == 0 { bind_register(j + 200) } else { bind_upvalue(j) };
+    std::iter::once(closure(0, child)).chain((0..255).map(bind)).collect()
+}
+
 /// A child of 255 upvalues, bound whole, twice, and with its last word missing.
 fn add_bound(list: &mut List) {
-    let bind: Vec<u32> = (0..255).map(|j| if j % 2 == 0 { bind_register(j + 200) } else { bind_upvalue(j) }).collect();
-    let once = [&[closure(0, 0)], &bind[..]].concat();
+    let once = bind_whole(0);
     let child = Source::main(0, 255, 2, &[RETURN]).at(1);
     for (code, stack) in
         [(&once[..], 255), (&once[..255], 255), (&once[..], 254), (&[&once[..], &once[..100]].concat()[..], 250)]
@@ -196,6 +201,20 @@ fn add_too_large(list: &mut List) {
     list.push("too-large", EXACT, full);
 }
 
+/// Bindings with more than 65,535 records before them: of rows before the parent, or between it and the child.
+fn add_far(list: &mut List) {
+    let other = Source::main(0, 255, 2, &[]);
+    let falling = [16_382, 300, 0].map(bind_whole).concat();
+    list.push("far", EXACT, image(&fan(&falling, &other, ROWS - 1)));
+    let mut behind = fan(&[], &other, 300);
+    behind.extend([Source::main(0, 255, 2, &bind_whole(0)).at(1), other.clone().at(2)]);
+    list.push("far", EXACT, image(&behind));
+    let mut nest = vec![main(&[bind_whole(1), bind_whole(0), bind_whole(2)].concat()), other.clone().at(1)];
+    nest.extend(times(&[other.clone().at(2), other.clone().at(3)], 150));
+    nest.extend(times(&[other.at(1)], 2));
+    list.push("far", EXACT, image(&nest));
+}
+
 pub fn add(list: &mut List) {
     add_deep(list);
     add_wide(list);
@@ -205,4 +224,5 @@ pub fn add(list: &mut List) {
     add_bound(list);
     add_random(list);
     add_too_large(list);
+    add_far(list);
 }

@@ -1,6 +1,6 @@
 -- `discovery::claim_child` meets its contract. Assumes nothing.
 use native.Mathlib.Omega.{arith}
-use mathlib.Core.Path.{sym, _∙_, ap}
+use mathlib.Core.Path.{sym, _∙_, ap₂}
 use borrow.Author.Needs.{needs}
 use Rattle.roles.specs.Contracts.{childBindings}
 use Rattle.roles.specs.declared.discovery.Companions.the-variants.{Bindings}
@@ -10,21 +10,20 @@ use Rattle.roles.proofs.discovery.claim_child.Tie as tie
 
 field-requires : tie.Need-field-requires
 field-requires c κs =
-    let f = found-child _ _ _ _ (sym (c .before .child .given .1) ∙ c .before .before .before .before .find .ensures .0) in
+    let f = found-child _ _ _ _ _ (sym (c .before .child .given .1) ∙ c .before .before .before .before .find .ensures .0) in
     (omega (arith, f .there), omega arith)
 
 missing : tie.Need-returns
-unfolding childBindings
 missing c =
     let e = c .before .before .before .find .ensures in
-    (ap Bindings (missing-child _ _ _ (sym (c .enum-told .given .1) ∙ e .0)), e .1)
+    (missing-child _ _ _ (sym (c .enum-told .given .1) ∙ e .0), e .1)
 
 found : tie.Need-returns-2
 unfolding childBindings
 found c =
     let e = c .before .before .before .before .before .find .ensures in
-    let f = found-child _ _ _ _ (sym (c .before .before .child .given .1) ∙ e .0) in
-    (ap Bindings (c .field .ensures ∙ sym (f .upvalues)), e .1)
+    let f = found-child _ _ _ _ _ (sym (c .before .before .child .given .1) ∙ e .0) in
+    (ap₂ Bindings (c .field .ensures ∙ sym (f .upvalues)) (f .before), e .1)
 
 pub claim-child-spec : {M : Type 1} → statement M
 claim-child-spec =

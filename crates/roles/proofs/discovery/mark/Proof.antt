@@ -13,14 +13,14 @@ few c =
     let b = c .before .before .before .before in
     let a = b .before .before .before .before .before .args in
     let m = c .before .before .mark-bindings .ensures in
-    marked-few _ _ (a .pc) (a .room) _ _ _ (b .before .before .companions .given .1) (b .if1 .taken) (m .0) (m .1)
+    marked-few _ _ (a .pc) (a .room) _ _ _ _ (b .before .before .companions .given .1) (b .if1 .taken) (m .0) (m .1)
 
 all : tie.Need-returns-3
 all c =
     let b = c .before .before .before .before in
     let a = b .before .before .before .before .before .args in
     let m = c .before .before .mark-bindings2 .ensures in
-    marked-all _ _ (a .pc) (a .room) _ _ _ (b .before .before .companions .given .1) (b .if1 .left) (m .0) (m .1)
+    marked-all _ _ (a .pc) (a .room) _ _ _ _ (b .before .before .companions .given .1) (b .if1 .left) (m .0) (m .1)
 
 extra : tie.Need-returns-4
 extra c =

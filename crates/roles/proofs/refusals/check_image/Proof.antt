@@ -1,4 +1,5 @@
 -- `refusals::check_image` meets its contract. Assumes nothing.
+use native.Mathlib.Omega.{arith}
 use borrow.Author.Needs.{needs}
 use Rattle.roles.specs.Refusals.{refuse}
 use Rattle.roles.specs.Contracts.{refusedOf, givenRefusal}
@@ -39,7 +40,7 @@ mismatch c =
     let f = c .before .before .before .before in
     let b = f .before .before .before in
     let s = laws.sized _ _ _ (b .before .before .before .before .if1 .left) (b .before .before .before .if2 .left) (b .before .before .is-too-large .ensures) in
-    laws.mismatch _ _ _ s (b .before .if3 .left) _ (b .check-depths .ensures) (f .before .enum-told .given .1) _ (f .check-fields .ensures) (c .before .before .enum-told2 .given .1) _ (c .before .word-total .ensures .0) (c .if4 .taken)
+    laws.mismatch _ _ _ s (b .before .if3 .left) _ (b .check-depths .ensures) (f .before .enum-told .given .1) _ (f .check-fields .ensures) (c .before .before .enum-told2 .given .1) _ (c .before .field-total .ensures .0) (c .if4 .taken)
 
 accepted : tie.Need-returns-7
 unfolding givenRefusal
@@ -47,7 +48,7 @@ accepted c =
     let f = c .before .before .before .before in
     let b = f .before .before .before in
     let s = laws.sized _ _ _ (b .before .before .before .before .if1 .left) (b .before .before .before .if2 .left) (b .before .before .is-too-large .ensures) in
-    laws.accepted-image _ _ _ s (b .before .if3 .left) _ (b .check-depths .ensures) (f .before .enum-told .given .1) _ (f .check-fields .ensures) (c .before .before .enum-told2 .given .1) _ (c .before .word-total .ensures .0) (c .if4 .left)
+    laws.accepted-image _ _ _ s (b .before .if3 .left) _ (b .check-depths .ensures) (f .before .enum-told .given .1) _ (f .check-fields .ensures) (c .before .before .enum-told2 .given .1) _ (c .before .field-total .ensures .0) (c .if4 .left)
 
 pub check-image-spec : {M : Type 1} → statement M
 check-image-spec =
@@ -65,7 +66,7 @@ check-image-spec =
     (λ c. search needs)
     bad-field
     (λ c. search needs)
-    (λ c κs. let b = c .before .before .before .before .before .before in laws.few-rows _ _ _ (b .before .is-too-large .ensures) (b .if3 .left))
+    (λ c κs. let b = c .before .before .before .before .before .before in (laws.few-rows _ _ _ (b .before .is-too-large .ensures) (b .if3 .left), omega arith))
     (λ c. search needs)
     mismatch
     accepted)

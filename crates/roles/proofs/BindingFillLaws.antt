@@ -1,0 +1,189 @@
+-- The bindings of all prototypes, one after the other: what was bound, and what is left, after each row. Assumes nothing.
+use Prim.Native.Nat.{ℕ, zero, suc, _+_, _*_, _/_, _≤_, _<_}
+use native.Mathlib.Nat.{add-zero}
+use native.Mathlib.Numerals.{add-one}
+use native.Mathlib.Omega.{arith}
+use mathlib.Core.Path.{_≡_, refl, sym, _∙_, ap, ap₂}
+use mathlib.Core.List.{List, [], _∷_, _++_, foldl, flatMap, append-assoc}
+use mathlib.Core.Option.{Option, none, some}
+use lib.ListN.{length, getD, take, drop, set, replicate, take-append-drop, length-set, length-replicate}
+use lib.Seq.{take-all, set-split, take-suc, drop-drop, drop-cons, length-take-le}
+use Rattle.opcodes.specs.Lists.{All, all-nil, all-cons, upFrom}
+use Rattle.opcodes.specs.Bytes.{u32s, overwrite}
+use Rattle.opcodes.specs.Words.{is, fieldBx, CLOSURE}
+use Rattle.roles.specs.Table.{Row, rowBytes, fieldAt, rowAt, rows, Proto, protoOf, childAt}
+use Rattle.roles.specs.Roles.{wordAt, executableAt, bindingCount, existing, bindingWords}
+use Rattle.roles.specs.Bindings.{Binding, unbound, Write, bindingOf, writeOf, writesAt, writes, firstBinding, bindingTotal, setBinding, bindRows, bindings, bindingBytes, bindingRecords}
+use Rattle.roles.specs.Refusals.{rolesRefusal, maxBindings}
+use Rattle.roles.specs.Calls.{imageBindings}
+use Rattle.roles.specs.Contracts.{childOfRow, protoIn, stored, boundIn}
+use Rattle.opcodes.proofs.AllLaws.{all-flatMap, all-map, all-of, all-imp, all-upTo}
+use Rattle.opcodes.proofs.TestLaws.{by-cond}
+use Rattle.opcodes.proofs.ByteLaws.{length-overwrite, overwrite-front, overwrite-whole}
+use Rattle.opcodes.proofs.PartLaws.{paste-part, overwrite-again}
+use Rattle.roles.proofs.TableLaws.{length-rows, getD-rows, drop-rows}
+use Rattle.roles.proofs.TotalLaws.{records-front, records-next, records-most}
+use Rattle.roles.proofs.RowCheckLaws.{rows-end}
+use Rattle.roles.proofs.RefusalLaws.{ImageKept, roles-kept}
+use Rattle.roles.proofs.BindingRecordLaws.{length-bindings, bindings-append}
+use Rattle.roles.proofs.BindingPassLaws.{child-records}
+
+-- ---- one record among others
+
+pub record-set : (old : List ℕ) (bs : List Binding) (i : ℕ) (b : Binding) → i < length bs → bindingBytes * length bs ≤ length old
+    → overwrite (overwrite old 0 (bindingRecords bs)) (bindingBytes * i) (bindingRecords (b ∷ [])) ≡ overwrite old 0 (bindingRecords (set bs i b))
+record-set old bs i b h room =
+    let before = take i bs in
+    let here = getD bs i b in
+    let after = drop (suc i) bs in
+    let new = bindingRecords (b ∷ []) in
+    let rest = drop (length (bindingRecords bs)) old in
+    let split : bs ≡ before ++ (here ∷ after) = sym (ap (λ (l : List Binding). before ++ l) (sym (drop-cons bs i b h)) ∙ take-append-drop i bs) in
+    let pieces : (x : Binding) → bindingRecords (before ++ (x ∷ after)) ≡ bindingRecords before ++ (bindingRecords (x ∷ []) ++ bindingRecords after) =
+    λ x. bindings-append before (x ∷ after) ∙ ap (λ (l : List ℕ). bindingRecords before ++ l) (bindings-append (x ∷ []) after) in
+    let at : bindingBytes * i ≡ length (bindingRecords before) + 0 = omega (arith, length-bindings before, length-take-le i bs (omega arith)) in
+    let same = overwrite-whole (bindingRecords (here ∷ [])) new (omega (arith, length-bindings (here ∷ []), length-bindings (b ∷ []))) in
+    let size : length (bindingRecords (set bs i b)) ≡ length (bindingRecords bs) = length-bindings (set bs i b) ∙ ap (λ (n : ℕ). bindingBytes * n) (length-set bs i b) ∙ sym (length-bindings bs) in
+    ap (λ (l : List ℕ). overwrite l (bindingBytes * i) new)
+    (overwrite-front old (bindingRecords bs) (omega (arith, length-bindings bs))
+    ∙ ap (λ (l : List ℕ). l ++ rest) (ap bindingRecords split ∙ pieces here)
+    ∙ append-assoc (bindingRecords before) (bindingRecords (here ∷ []) ++ bindingRecords after) rest
+    ∙ ap (λ (l : List ℕ). bindingRecords before ++ l) (append-assoc (bindingRecords (here ∷ [])) (bindingRecords after) rest))
+    ∙ ap (λ (n : ℕ). overwrite (bindingRecords before ++ (bindingRecords (here ∷ []) ++ (bindingRecords after ++ rest))) n new) at
+    ∙ sym (paste-part (bindingRecords before) (bindingRecords (here ∷ [])) (bindingRecords after ++ rest) 0 new (omega (arith, length-bindings (here ∷ []), length-bindings (b ∷ []))))
+    ∙ ap (λ (l : List ℕ). bindingRecords before ++ (l ++ (bindingRecords after ++ rest))) same
+    ∙ sym (overwrite-front old (bindingRecords (set bs i b)) (omega (arith, size, length-bindings bs))
+    ∙ ap₂ (λ (l : List ℕ) (n : ℕ). l ++ drop n old) (ap bindingRecords (set-split bs i b h) ∙ pieces b) size
+    ∙ append-assoc (bindingRecords before) (new ++ bindingRecords after) rest
+    ∙ ap (λ (l : List ℕ). bindingRecords before ++ l) (append-assoc new (bindingRecords after) rest))
+
+-- ---- the writes of a prototype are to the records of its children
+
+abbrev Inside : Proto → Write → Type 0
+Inside p v = v .upvalue < getD (p .children) (v .child) 0
+
+binding-words-most : (p : Proto) (pc : ℕ) → bindingWords p pc ≤ getD (p .children) (fieldBx (wordAt p pc)) 0
+unfolding bindingWords existing bindingCount
+binding-words-most p pc =
+    let w = wordAt p pc in
+    let n = getD (p .children) (fieldBx w) 0 in
+    let owned : bindingCount p w ≤ n = by-cond (λ (k : ℕ). k ≤ n) (is w (CLOSURE ∷ [])) n 0 (λ _. omega arith) (λ _. omega arith) in
+    by-cond (λ (k : ℕ). k ≤ n) (executableAt p pc) (existing p pc (bindingCount p w)) 0 (λ _. omega arith) (λ _. omega arith)
+
+pub writes-inside : (p : Proto) → All (Inside p) (writes p)
+unfolding writes writesAt writeOf
+writes-inside p =
+    all-flatMap (Inside p) (writesAt p)
+    (all-of (λ pc.
+    all-flatMap (Inside p) (λ j. writeOf (fieldBx (wordAt p pc)) j (pc + 1 + j) (wordAt p (pc + 1 + j)))
+    (all-upTo (λ j. All (Inside p) (writeOf (fieldBx (wordAt p pc)) j (pc + 1 + j) (wordAt p (pc + 1 + j)))) (bindingWords p pc) (λ j h.
+    all-map (Inside p) (λ b. record { child = fieldBx (wordAt p pc); upvalue = j; binding = b }) (all-of (λ b. omega (arith, binding-words-most p pc)) (bindingOf (pc + 1 + j) (wordAt p (pc + 1 + j)))))))
+    (upFrom 0 (length (p .code))))
+
+-- ---- in a buffer and in the list of bindings
+
+abbrev setIn : List ℕ → ℕ → List Binding → Write → List Binding
+setIn table row bs v = setBinding (rows table) (childOfRow table row (v .child)) v bs
+
+module _ (table : List ℕ) (row : ℕ) (ws old : List ℕ) (room : bindingBytes * bindingTotal (rows table) ≤ length old) where
+  abbrev p : Proto
+  p = protoIn table row ws
+
+  one-stored : (bs : List Binding) (v : Write) → length bs ≡ bindingTotal (rows table) → Inside p v
+      → (stored (rows table) (childOfRow table row (v .child)) v (overwrite old 0 (bindingRecords bs)) ≡ overwrite old 0 (bindingRecords (setIn table row bs v)))
+      × (length (setIn table row bs v) ≡ bindingTotal (rows table))
+  unfolding stored setBinding protoIn protoOf
+  one-stored bs v size h = go (childOfRow table row (v .child)) refl
+    where
+      go : (o : Option Row) → childOfRow table row (v .child) ≡ o
+          → (stored (rows table) o v (overwrite old 0 (bindingRecords bs)) ≡ overwrite old 0 (bindingRecords (setBinding (rows table) o v bs))) × (length (setBinding (rows table) o v bs) ≡ bindingTotal (rows table))
+      go none e = (refl, size)
+      go (some c) e =
+          let r = child-records table row (v .child) c e in
+          let i = firstBinding (rows table) (c .row) + v .upvalue in
+          (record-set old bs i (v .binding) (omega (arith, r .inside, r .upvalues)) (omega arith), length-set bs i (v .binding) ∙ size)
+
+  pub all-stored : (bs : List Binding) (vs : List Write) → length bs ≡ bindingTotal (rows table) → All (Inside p) vs
+      → (boundIn table row vs (overwrite old 0 (bindingRecords bs)) ≡ overwrite old 0 (bindingRecords (foldl (setIn table row) bs vs)))
+      × (length (foldl (setIn table row) bs vs) ≡ bindingTotal (rows table))
+  unfolding boundIn
+  all-stored bs [] size all-nil = (refl, size)
+  all-stored bs (v ∷ vs) size (all-cons h hs) =
+      let one = one-stored bs v size h in
+      let more = all-stored (setIn table row bs v) vs (one .1) hs in
+      (ap (boundIn table row vs) (one .0) ∙ more .0, more .1)
+
+-- ---- row by row
+
+pub record BindFill (table words old out : List ℕ) (row first base : ℕ) : Type 0 where
+  pub made : List Binding
+  pub size : length made ≡ bindingTotal (rows table)
+  pub long : length out ≡ length old
+  pub written : out ≡ overwrite old 0 (bindingRecords made)
+  pub left : bindRows (rows table) (drop row (rows table)) (drop first (u32s words)) made ≡ imageBindings table words
+  pub before : base ≡ firstBinding (rows table) row
+
+-- an accepted table has so many upvalues at most
+pub few-records : (table words : List ℕ) (roleLength : ℕ) → rolesRefusal table words roleLength ≡ none → bindingTotal (rows table) ≤ maxBindings
+few-records table words roleLength accepted =
+    let kept = roles-kept table words roleLength accepted .image in
+    omega (arith, records-most 255 (all-imp (λ r h. h .upvalues) (kept .fields)), kept .row-limit)
+
+-- it begins with a buffer whose records bind nothing
+pub bind-fill-begins : (table words first old : List ℕ) (count : ℕ) → count ≡ bindingTotal (rows table) → bindingBytes * count ≤ length first → old ≡ overwrite first 0 (bindingRecords (replicate count unbound))
+    → BindFill table words old old 0 0 0
+unfolding imageBindings bindings firstBinding bindingTotal
+bind-fill-begins table words first old count e room d =
+    let none-bound = bindingRecords (replicate count unbound) in
+    let again : old ≡ overwrite old 0 none-bound =
+    d ∙ sym (ap (λ (l : List ℕ). overwrite l 0 none-bound) d ∙ overwrite-again first none-bound none-bound (omega (arith, length-bindings (replicate count unbound), length-replicate count unbound)) refl) in
+    record {
+      made = replicate (bindingTotal (rows table)) unbound;
+      size = length-replicate (bindingTotal (rows table)) unbound;
+      long = refl;
+      written = again ∙ ap (λ (n : ℕ). overwrite old 0 (bindingRecords (replicate n unbound))) e;
+      left = refl;
+      before = refl;
+    }
+
+-- and ends with all of them written over these
+pub bind-fill-ends : (table words first old out : List ℕ) (count row place base : ℕ) → count ≡ bindingTotal (rows table) → bindingBytes * count ≤ length first → old ≡ overwrite first 0 (bindingRecords (replicate count unbound))
+    → BindFill table words old out row place base → length table / rowBytes ≤ row → out ≡ overwrite first 0 (bindingRecords (imageBindings table words))
+unfolding bindRows
+bind-fill-ends table words first old out count row place base e room d v h =
+    let us = replicate count unbound in
+    let all : v .made ≡ imageBindings table words = sym (ap (λ (rs : List Row). bindRows (rows table) rs (drop place (u32s words)) (v .made)) (rows-end table row h)) ∙ v .left in
+    v .written
+    ∙ ap₂ (λ (l : List ℕ) (bs : List Binding). overwrite l 0 (bindingRecords bs)) d all
+    ∙ overwrite-again first (bindingRecords us) (bindingRecords (imageBindings table words)) (omega (arith, length-bindings us, length-replicate count unbound))
+    (omega (arith, length-bindings us, length-replicate count unbound, length-bindings (imageBindings table words), ap length all, v .size))
+
+module _ (table words old : List ℕ) where
+  module _ (out : List ℕ) (row first base : ℕ) (v : BindFill table words old out row first base) where
+    module _ (there : row < length table / rowBytes) (u : ℕ) (own : u ≡ fieldAt table row 3) where
+      pub base-next : base + u ≡ firstBinding (rows table) (suc row)
+      unfolding rowAt
+      base-next =
+          let r : getD (rows table) row (rowAt table row) .upvalues ≡ u = ap (λ (x : Row). x .upvalues) (getD-rows table row (rowAt table row) there) ∙ sym own in
+          omega (arith, records-next (rows table) row (rowAt table row) (omega (arith, length-rows table)), v .before)
+
+      pub bind-fill-next : (n : ℕ) (new : List ℕ) → rowAt table row .words ≡ n → bindingBytes * bindingTotal (rows table) ≤ length old
+          → new ≡ boundIn table row (writes (protoIn table row (drop first (u32s words)))) out → BindFill table words old new (row + 1) (first + n) (base + u)
+      unfolding bindRows protoIn childOfRow
+      bind-fill-next n new stated room e =
+          let ws = drop first (u32s words) in
+          let vs = writes (protoIn table row ws) in
+          let more = all-stored table row ws old room (v .made) vs (v .size) (writes-inside (protoIn table row ws)) in
+          let done : new ≡ overwrite old 0 (bindingRecords (foldl (setIn table row) (v .made) vs)) = e ∙ ap (boundIn table row vs) (v .written) ∙ more .0 in
+          let words-left : drop (first + n) (u32s words) ≡ drop (rowAt table row .words) ws = sym (ap (λ (k : ℕ). drop k ws) stated ∙ drop-drop n first (u32s words)) in
+          record {
+            made = foldl (setIn table row) (v .made) vs;
+            size = more .1;
+            long = ap length done ∙ length-overwrite old 0 _;
+            written = done;
+            left =
+                ap₂ (λ (k : ℕ) (l : List ℕ). bindRows (rows table) (drop k (rows table)) l (foldl (setIn table row) (v .made) vs)) (add-one row) words-left
+                ∙ sym (ap (λ (rs : List Row). bindRows (rows table) rs ws (v .made)) (drop-rows table row there))
+                ∙ v .left;
+            before = base-next ∙ ap (firstBinding (rows table)) (sym (add-one row));
+          }

@@ -1,0 +1,176 @@
+-- The records of bindings as bytes: one record, several after one another, and those that binding words set. Assumes nothing.
+use Prim.Native.Nat.{ℕ, zero, suc, _+_, _*_, _%_, _≤_, _<_}
+use native.Mathlib.Nat.{zero-add, add-zero}
+use native.Mathlib.Numerals.{add-one}
+use native.Mathlib.Omega.{arith}
+use mathlib.Core.Path.{_≡_, refl, sym, _∙_, ap, ap₂, subst}
+use mathlib.Core.Bool.{Bool, true, false}
+use mathlib.Core.List.{List, [], _∷_, _++_, map, flatMap, foldl, append-assoc, append-nil, map-append}
+use lib.ListN.{length, getD, take, drop, replicate, length-replicate, length-drop}
+use lib.Seq.{length-take-le}
+use lib.IntN.{pos}
+use Rattle.opcodes.specs.Lists.{only, upFrom}
+use Rattle.opcodes.specs.Bytes.{i32Bits, i32Record, u32Record, overwrite}
+use Rattle.opcodes.specs.Words.{decoded, is, operand, B, MOVE, GETUPVAL}
+use Rattle.opcodes.specs.declared.RawInstruction51.{RawInstruction51}
+use Rattle.roles.specs.Bindings.{Binding, unbound, bindingIndex, bindingOf, bindingFields, bindingBytes, bindingRecords}
+use Rattle.roles.specs.Contracts.{boundBy, boundFrom, boundClaim, Bindable}
+use Rattle.roles.specs.declared.discovery.Companions.{Companions}
+use Rattle.roles.specs.declared.discovery.Companions.the-variants.{None, Bindings, Extra}
+use Rattle.opcodes.proofs.ListLaws.{flatMap-append, length-flatMap, foldl-next}
+use Rattle.opcodes.proofs.ByteLaws.{length-i32Record, u32Record-append, length-overwrite, overwrite-none, overwrite-next, overwrite-front}
+use Rattle.opcodes.proofs.PartLaws.{paste-part, by-part}
+use Rattle.roles.proofs.OwnerLaws.{has-opcode, has-other}
+
+-- a record by the bits of its fields
+pub one-binding : (b : Binding) → bindingRecords (b ∷ []) ≡ u32Record (b .instack ∷ b .idx ∷ i32Bits (b .pc) ∷ [])
+unfolding bindingRecords i32Record flatMap bindingFields i32Bits
+one-binding b = refl
+
+pub length-bindings : (bs : List Binding) → length (bindingRecords bs) ≡ bindingBytes * length bs
+unfolding bindingRecords bindingFields
+length-bindings bs = length-i32Record (flatMap bindingFields bs) ∙ omega (arith, length-flatMap bindingFields 3 (λ b. refl) bs)
+
+pub bindings-append : (bs cs : List Binding) → bindingRecords (bs ++ cs) ≡ bindingRecords bs ++ bindingRecords cs
+unfolding bindingRecords i32Record
+bindings-append bs cs =
+    ap (λ l. u32Record (map i32Bits l)) (flatMap-append bindingFields bs cs)
+    ∙ ap u32Record (map-append i32Bits (flatMap bindingFields bs) (flatMap bindingFields cs))
+    ∙ u32Record-append (map i32Bits (flatMap bindingFields bs)) (map i32Bits (flatMap bindingFields cs))
+
+-- ---- records of upvalues that nothing binds
+
+pub unbound-none : (old : List ℕ) → old ≡ overwrite old 0 (bindingRecords (replicate 0 unbound))
+unfolding bindingRecords i32Record u32Record flatMap
+unbound-none old = sym (overwrite-none old 0)
+
+replicate-next : (n : ℕ) → replicate (suc n) unbound ≡ replicate n unbound ++ (unbound ∷ [])
+replicate-next zero = refl
+replicate-next (suc n) = ap (λ (l : List Binding). unbound ∷ l) (replicate-next n)
+
+pub unbound-next : (old m new : List ℕ) (i : ℕ) → bindingBytes * i + bindingBytes ≤ length old → m ≡ overwrite old 0 (bindingRecords (replicate i unbound))
+    → new ≡ overwrite m (bindingBytes * i) (u32Record (0 ∷ 0 ∷ 0xffff_ffff ∷ [])) → new ≡ overwrite old 0 (bindingRecords (replicate (i + 1) unbound))
+unfolding unbound i32Bits
+unbound-next old m new i room e d =
+    let us = replicate i unbound in
+    let size : bindingBytes * i ≡ 0 + length (bindingRecords us) = omega (arith, length-bindings us, length-replicate i unbound) in
+    d
+    ∙ ap (overwrite m (bindingBytes * i)) (sym (one-binding unbound))
+    ∙ ap₂ (λ (l : List ℕ) (n : ℕ). overwrite l n (bindingRecords (unbound ∷ []))) e size
+    ∙ overwrite-next old 0 (bindingRecords us) (bindingRecords (unbound ∷ [])) (omega (arith, length-bindings us, length-replicate i unbound, length-bindings (unbound ∷ [])))
+    ∙ ap (overwrite old 0) (sym (ap (λ (n : ℕ). bindingRecords (replicate n unbound)) (add-one i) ∙ ap bindingRecords (replicate-next i) ∙ bindings-append us (unbound ∷ [])))
+
+-- ---- a binding word
+
+module _ (i pc w : ℕ) (r : RawInstruction51) (split : r ≡ decoded w) (old : List ℕ) where
+  index : r .b % 256 ≡ bindingIndex w
+  unfolding decoded bindingIndex
+  index = ap (λ (x : RawInstruction51). x .b % 256) split
+
+  pub bound-move : (new : List ℕ) → r .«opcode_num» ≡ MOVE → new ≡ overwrite old (bindingBytes * i) (u32Record (1 ∷ r .b % 256 ∷ pc ∷ [])) → new ≡ boundBy i pc w old
+  unfolding boundBy bindingOf only i32Bits
+  bound-move new e d = d ∙ rw (has-opcode w r split MOVE e, has-other w r split GETUPVAL (λ f. omega arith), index, one-binding)
+
+  pub bound-getupval : (new : List ℕ) → (r .«opcode_num» ≡ MOVE → ⊥) → r .«opcode_num» ≡ GETUPVAL → new ≡ overwrite old (bindingBytes * i) (u32Record (0 ∷ r .b % 256 ∷ pc ∷ [])) → new ≡ boundBy i pc w old
+  unfolding boundBy bindingOf only i32Bits
+  bound-getupval new f e d = d ∙ rw (has-other w r split MOVE f, has-opcode w r split GETUPVAL e, index, one-binding)
+
+  pub bound-other : (r .«opcode_num» ≡ MOVE → ⊥) → (r .«opcode_num» ≡ GETUPVAL → ⊥) → old ≡ boundBy i pc w old
+  unfolding boundBy bindingOf only
+  bound-other f g = rw (has-other w r split MOVE f, has-other w r split GETUPVAL g)
+
+-- ---- several of them
+
+module _ (words : List ℕ) (pc first : ℕ) where
+  pub bound-none : (old : List ℕ) → old ≡ boundFrom words pc first 0 old
+  unfolding boundFrom
+  bound-none old = refl
+
+  bound-next : (n : ℕ) (old : List ℕ) → boundFrom words pc first (suc n) old ≡ boundBy (first + n) (pc + n) (getD words (pc + n) 0) (boundFrom words pc first n old)
+  unfolding boundFrom
+  bound-next n old = foldl-next (λ (out : List ℕ) j. boundBy (first + j) (pc + j) (getD words (pc + j) 0) out) old n
+
+-- as the code has it: from record 0 on
+pub bound-more : (words old m new : List ℕ) (pc j w : ℕ) → w ≡ getD words (pc + j) 0 → m ≡ boundFrom words pc 0 j old → new ≡ boundBy j (pc + j) w m → new ≡ boundFrom words pc 0 (j + 1) old
+bound-more words old m new pc j w word e d =
+    d
+    ∙ ap₂ (λ (x : ℕ) (l : List ℕ). boundBy j (pc + j) x l) word e
+    ∙ sym (ap (λ (n : ℕ). boundFrom words pc 0 n old) (add-one j)
+    ∙ bound-next words pc 0 j old
+    ∙ ap (λ (n : ℕ). boundBy n (pc + j) (getD words (pc + j) 0) (boundFrom words pc 0 j old)) (zero-add j))
+
+-- ---- through a part of the buffer
+
+module _ (front rest : List ℕ) (first : ℕ) (begins : length front ≡ bindingBytes * first) where
+  abbrev pasted : List ℕ → List ℕ
+  pasted part = front ++ (part ++ rest)
+
+  pasted-records : (i : ℕ) (bs : List Binding) (part : List ℕ) → bindingBytes * i + bindingBytes ≤ length part
+      → pasted (foldl (λ (out : List ℕ) b. overwrite out (bindingBytes * i) (bindingRecords (b ∷ []))) part bs)
+      ≡ foldl (λ (out : List ℕ) b. overwrite out (bindingBytes * (first + i)) (bindingRecords (b ∷ []))) (pasted part) bs
+  pasted-records i [] part h = refl
+  pasted-records i (b ∷ bs) part h =
+      let new = bindingRecords (b ∷ []) in
+      let to : length front + bindingBytes * i ≡ bindingBytes * (first + i) = omega arith in
+      pasted-records i bs (overwrite part (bindingBytes * i) new) (omega (arith, length-overwrite part (bindingBytes * i) new))
+      ∙ ap (λ (l : List ℕ). foldl (λ (out : List ℕ) b. overwrite out (bindingBytes * (first + i)) (bindingRecords (b ∷ []))) l bs)
+      (paste-part front part rest (bindingBytes * i) new (omega (arith, length-bindings (b ∷ []))) ∙ ap (λ (n : ℕ). overwrite (pasted part) n new) to)
+
+  pasted-word : (i pc w : ℕ) (part : List ℕ) → bindingBytes * i + bindingBytes ≤ length part → pasted (boundBy i pc w part) ≡ boundBy (first + i) pc w (pasted part)
+  unfolding boundBy
+  pasted-word i pc w part h = pasted-records i (bindingOf pc w) part h
+
+  length-boundBy : (i pc w : ℕ) (part : List ℕ) → length (boundBy i pc w part) ≡ length part
+  unfolding boundBy
+  length-boundBy i pc w part = go (bindingOf pc w) part
+    where
+      go : (bs : List Binding) (l : List ℕ) → length (foldl (λ (out : List ℕ) b. overwrite out (bindingBytes * i) (bindingRecords (b ∷ []))) l bs) ≡ length l
+      go [] l = refl
+      go (b ∷ bs) l = go bs (overwrite l (bindingBytes * i) (bindingRecords (b ∷ []))) ∙ length-overwrite l (bindingBytes * i) (bindingRecords (b ∷ []))
+
+  length-boundFrom : (words : List ℕ) (pc n : ℕ) (part : List ℕ) → length (boundFrom words pc 0 n part) ≡ length part
+  length-boundFrom words pc zero part = ap length (sym (bound-none words pc 0 part))
+  length-boundFrom words pc (suc n) part =
+      ap length (bound-next words pc 0 n part)
+      ∙ length-boundBy (0 + n) (pc + n) (getD words (pc + n) 0) (boundFrom words pc 0 n part)
+      ∙ length-boundFrom words pc n part
+
+  pasted-words : (words : List ℕ) (pc n : ℕ) (part : List ℕ) → bindingBytes * n ≤ length part → pasted (boundFrom words pc 0 n part) ≡ boundFrom words pc first n (pasted part)
+  pasted-words words pc zero part h = ap pasted (sym (bound-none words pc 0 part)) ∙ bound-none words pc first (pasted part)
+  pasted-words words pc (suc n) part h =
+      let w = getD words (pc + n) 0 in
+      let so-far = boundFrom words pc 0 n part in
+      ap pasted (bound-next words pc 0 n part ∙ ap (λ (k : ℕ). boundBy k (pc + n) w so-far) (zero-add n))
+      ∙ pasted-word n (pc + n) w so-far (omega (arith, length-boundFrom words pc n part))
+      ∙ ap (boundBy (first + n) (pc + n) w) (pasted-words words pc n part (omega arith))
+      ∙ sym (bound-next words pc first n (pasted part))
+
+-- the records of a child are pasted back
+pub child-bound : (words old part : List ℕ) (pc first size count n : ℕ) → size ≡ bindingBytes * n → count ≤ n → bindingBytes * first + size ≤ length old
+    → part ≡ boundFrom words pc 0 count (take size (drop (bindingBytes * first) old))
+    → take (bindingBytes * first) old ++ (part ++ drop size (drop (bindingBytes * first) old)) ≡ boundFrom words pc first count old
+child-bound words old part pc first size count n whole few inside e =
+    let at = bindingBytes * first in
+    let room : length (take size (drop at old)) ≡ size = length-take-le size (drop at old) (omega (arith, length-drop at old)) in
+    ap (λ (l : List ℕ). take at old ++ (l ++ drop size (drop at old))) e
+    ∙ pasted-words (take at old) (drop size (drop at old)) first (length-take-le at old (omega arith)) words pc count (take size (drop at old)) (omega arith)
+    ∙ ap (boundFrom words pc first count) (by-part old at size)
+
+-- ---- what an owner's companions bind
+
+module _ (words old new : List ℕ) (pc base count : ℕ) (cs : Companions) where
+  pub claim-none : cs ≡ None → new ≡ old → new ≡ boundClaim words pc base count cs old
+  unfolding boundClaim
+  claim-none e d = d ∙ sym (ap (λ (x : Companions). boundClaim words pc base count x old) e)
+
+  pub claim-bound : (n first : ℕ) → cs ≡ Bindings n first → new ≡ boundFrom words (pc + 1) (base + first) count old → new ≡ boundClaim words pc base count cs old
+  unfolding boundClaim
+  claim-bound n first e d = d ∙ sym (ap (λ (x : Companions). boundClaim words pc base count x old) e)
+
+  pub claim-extra : cs ≡ Extra → new ≡ old → new ≡ boundClaim words pc base count cs old
+  unfolding boundClaim
+  claim-extra e d = d ∙ sym (ap (λ (x : Companions). boundClaim words pc base count x old) e)
+
+pub bindable-child : (base count room : ℕ) (cs : Companions) (n first : ℕ) → cs ≡ Bindings n first → Bindable base count room cs → (count ≤ n) × (bindingBytes * (base + first + n) ≤ room)
+unfolding Bindable
+bindable-child base count room cs n first e h = subst (Bindable base count room) e h

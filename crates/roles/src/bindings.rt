@@ -1,0 +1,152 @@
+// Upvalue bindings, after the end of luad's `load_proto_51`. A record is three i32: instack, index and the pc of the word that binds.
+use crate::discovery::Companions;
+use crate::discovery::first_child;
+use crate::discovery::mark_owner;
+use crate::role::NONE;
+use opcodes::RawInstruction51;
+use opcodes::bytes::read_u32;
+use opcodes::bytes::write_record;
+ghost use mathlib.Core.Path.{_≡_};
+ghost use Prim.Native.Nat.{_+_, _*_, _/_, _<_, _≤_, suc};
+ghost use mathlib.Core.List.{[], _∷_};
+ghost use lib.ListN.{length, replicate};
+ghost use Rattle.opcodes.specs.Bytes.{overwrite, u32Record, u32s};
+ghost use Rattle.roles.specs.Bindings.{bindingBytes, bindingRecords, bindingTotal, firstBinding, unbound, writes};
+ghost use Rattle.roles.specs.Contracts.{Bindable, boundBy, boundClaim, boundFrom, boundIn, protoIn};
+ghost use Rattle.roles.specs.Refusals.{maxBindings, maxRows, maxWordBytes};
+ghost use Rattle.roles.specs.Roles.{recordsOf, roles as protoRoles};
+ghost use Rattle.roles.specs.Table.{rowAt, rowBytes, rows};
+
+// The length of a record in bytes.
+pub const BINDING_BYTES: usize = 12;
+
+// The opcodes of binding words, by their numbers.
+const MOVE: u8 = 0;
+
+const GETUPVAL: u8 = 4;
+
+// Writes the record of an upvalue that nothing binds, so many times.
+pub fn unbind(bindings: &mut [u8], count: usize)
+    requires { ⌜ bindingBytes * count ≤ length (now bindings) ⌝ }
+    ensures { λ _. ⌜ now (bindings .exit) ≡ overwrite (now (bindings .entry)) 0 (bindingRecords (replicate count unbound)) ⌝ }
+{
+    let mut i = 0;
+    while i < count {
+        write_binding(bindings, i, 0, 0, NONE);
+        i += 1;
+    }
+}
+
+// Marks the roles of a row's words, and binds the upvalues of its children. The records of the rows after it begin with `base`.
+pub fn resolve_bindings(
+    protos: &[u8],
+    row: usize,
+    code: &[u8],
+    out: &mut [u8],
+    bindings: &mut [u8],
+    base: usize,
+)
+    requires { ⌜ (rowBytes * row + rowBytes ≤ length (now protos)) × (length (now protos) / rowBytes ≤ maxRows) ⌝ }
+    requires { ⌜ rowAt (now protos) row .words ≡ length (now code) / 4 ⌝ }
+    requires { ⌜ (length (now code) ≤ maxWordBytes) × (2 * length (now code) ≤ length (now out)) ⌝ }
+    requires { ⌜ (base ≡ firstBinding (rows (now protos)) (suc row)) × (bindingTotal (rows (now protos)) ≤ maxBindings) × (bindingBytes * bindingTotal (rows (now protos)) ≤ length (now bindings)) ⌝ }
+    ensures { λ _. ⌜ now (out .exit) ≡ overwrite (now (out .entry)) 0 (recordsOf (protoRoles (protoIn (now (protos .entry)) row (u32s (now (code .entry)))))) ⌝ }
+    ensures { λ _. ⌜ now (bindings .exit) ≡ boundIn (now (protos .entry)) row (writes (protoIn (now (protos .entry)) row (u32s (now (code .entry))))) (now (bindings .entry)) ⌝ }
+{
+    let mut cursor = first_child(protos, row);
+    let mut pc = 0;
+    while pc < code.len() / 4 {
+        let owner = mark_owner(protos, row, cursor, code, pc, out);
+        cursor = owner.cursor;
+        let companions = owner.companions;
+        bind_claim(bindings, base, code, pc, companions, owner.existing);
+        pc += 1 + owner.existing;
+    }
+}
+
+// The existing companions of the owner at pc bind the upvalues of a child, where it is a CLOSURE that has one.
+fn bind_claim(
+    bindings: &mut [u8],
+    base: usize,
+    code: &[u8],
+    pc: usize,
+    companions: Companions,
+    existing: usize,
+)
+    requires { ⌜ (pc + existing < length (now code) / 4) × (length (now code) ≤ maxWordBytes) × (base ≤ maxBindings) ⌝ }
+    requires { ⌜ Bindable base existing (length (now bindings)) companions ⌝ }
+    ensures { λ _. ⌜ now (bindings .exit) ≡ boundClaim (u32s (now (code .entry))) pc base existing companions (now (bindings .entry)) ⌝ }
+{
+    match companions {
+        Companions::None => {}
+        Companions::Bindings(upvalues, first) => bind_child(
+            bindings,
+            base + first as usize,
+            upvalues as usize,
+            code,
+            pc,
+            existing,
+        ),
+        Companions::Extra => {}
+    }
+}
+
+// The same through the part of the buffer that the child's records are.
+fn bind_child(
+    bindings: &mut [u8],
+    first: usize,
+    upvalues: usize,
+    code: &[u8],
+    pc: usize,
+    existing: usize,
+)
+    requires { ⌜ (pc + existing < length (now code) / 4) × (length (now code) ≤ maxWordBytes) ⌝ }
+    requires { ⌜ (existing ≤ upvalues) × (bindingBytes * (first + upvalues) ≤ length (now bindings)) ⌝ }
+    ensures { λ _. ⌜ now (bindings .exit) ≡ boundFrom (u32s (now (code .entry))) (pc + 1) first existing (now (bindings .entry)) ⌝ }
+{
+    bind_words(
+        &mut bindings[BINDING_BYTES * first..BINDING_BYTES * (first + upvalues)],
+        code,
+        pc,
+        existing,
+    );
+}
+
+// So many words after the CLOSURE at pc each set a record, in order.
+fn bind_words(records: &mut [u8], code: &[u8], pc: usize, count: usize)
+    requires { ⌜ (pc + count < length (now code) / 4) × (length (now code) ≤ maxWordBytes) ⌝ }
+    requires { ⌜ bindingBytes * count ≤ length (now records) ⌝ }
+    ensures { λ _. ⌜ now (records .exit) ≡ boundFrom (u32s (now (code .entry))) (pc + 1) 0 count (now (records .entry)) ⌝ }
+{
+    let mut j = 0;
+    while j < count {
+        let at = pc + 1 + j;
+        bind_word(records, j, at as u32, read_u32(code, 4 * at));
+        j += 1;
+    }
+}
+
+// The binding word at pc sets record i: MOVE to a register, GETUPVAL to an upvalue of the parent. Another opcode leaves it.
+fn bind_word(records: &mut [u8], i: usize, pc: u32, word: u32)
+    requires { ⌜ bindingBytes * i + bindingBytes ≤ length (now records) ⌝ }
+    ensures { λ _. ⌜ now (records .exit) ≡ boundBy i pc word (now (records .entry)) ⌝ }
+{
+    let w = RawInstruction51::decode(word);
+    let index = (w.b % 256) as u32;
+    if w.opcode_num == MOVE {
+        write_binding(records, i, 1, index, pc);
+        return;
+    }
+    if w.opcode_num == GETUPVAL {
+        write_binding(records, i, 0, index, pc);
+    }
+}
+
+// Writes record i from the bits of its fields.
+fn write_binding(records: &mut [u8], i: usize, instack: u32, index: u32, pc: u32)
+    requires { ⌜ bindingBytes * i + bindingBytes ≤ length (now records) ⌝ }
+    ensures { λ _. ⌜ now (records .exit) ≡ overwrite (now (records .entry)) (bindingBytes * i) (u32Record (instack ∷ index ∷ pc ∷ [])) ⌝ }
+{
+    let record = [instack, index, pc];
+    write_record(records, BINDING_BYTES * i, &record);
+}

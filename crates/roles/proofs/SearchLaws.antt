@@ -141,7 +141,7 @@ from-later table d i j k first next h e = go (childAt d (drop j (rows table)) k)
         ap (λ (n : ℕ). (n + recordsBetween table j (c .row)) % 2 ^ 32) e
         ∙ wrapped (first + recordsBetween table i j) (recordsBetween table j (c .row))
         ∙ ap (λ (n : ℕ). n % 2 ^ 32) (omega arith) in
-        ap (child.Row (c .row)) same
+        ap (λ (n : ℕ). child.Row n (c .row)) same
 
 module _ (table : List ℕ) (at d k first x : ℕ) (there : at < length table / rowBytes) (depth : x ≡ fieldAt table at 0) where
   here : rowAt table at .depth ≡ x
@@ -152,11 +152,11 @@ module _ (table : List ℕ) (at d k first x : ℕ) (there : at < length table / 
   unfolding childFrom
   find-end h = sym (ap (childFrom table at first) (row-end table at d there k (omega (arith, here))))
 
-  pub find-found : first < 2 ^ 32 → x ≡ suc d → k ≡ 0 → child.Row at first ≡ search table at d k first
+  pub find-found : first < 2 ^ 32 → x ≡ suc d → k ≡ 0 → child.Row first at ≡ search table at d k first
   unfolding childFrom rowAt
   find-found small h e =
       let place : first ≡ (first + recordsBetween table at at) % 2 ^ 32 = omega (arith, none-between table at at (omega arith)) in
-      ap (child.Row at) place
+      ap (λ (n : ℕ). child.Row n at) place
       ∙ sym (ap (λ (n : ℕ). search table at d n first) e ∙ ap (childFrom table at first) (row-found table at d there (here ∙ h)))
 
   module _ (u next : ℕ) (own : u ≡ fieldAt table at 3) (e : next ≡ (first + u) % 2 ^ 32) where
@@ -218,11 +218,11 @@ module _ (table : List ℕ) (parent : ℕ) where
     pub upvalues : getD (protoIn table parent [] .children) k 0 ≡ fieldAt table r 3
     pub resumes : (j : ℕ) → childOfRow table parent (k + j) ≡ childAt (rowAt table parent .depth) (drop r (rows table)) j
 
-  pub found-child : (k r first : ℕ) → child.Row r first ≡ child-of k → FoundChild k r first
+  pub found-child : (k r first : ℕ) → child.Row first r ≡ child-of k → FoundChild k r first
   unfolding childFrom childOfRow protoIn rowAt recordsBefore
   found-child k r first e = go (childOfRow table parent k) refl e
     where
-      go : (o : Option Row) → childOfRow table parent k ≡ o → child.Row r first ≡ childFrom table (suc parent) 0 o → FoundChild k r first
+      go : (o : Option Row) → childOfRow table parent k ≡ o → child.Row first r ≡ childFrom table (suc parent) 0 o → FoundChild k r first
       go none f e = let z : _≡_ {A = ℕ} 0 1 = cc in absurd (omega arith)
       go (some c) f e =
           let number : c .row ≡ r = cc in
@@ -307,10 +307,10 @@ module _ (table : List ℕ) (parent : ℕ) where
       ∙ sym (ap (childFrom table (suc parent) 0) (ap (childOfRow table parent) (sym whole) ∙ v .resumes (k - u .index)))
 
   -- the child last found is named again
-  pub named-again : (u : Cursor) (k d : ℕ) (r : Bool) → Tracks table parent u → k ≡ u .index → d ≡ fieldAt table parent 0 → r ≡ isChild table (u .row) d → r ≡ true → child.Row (u .row) (u .first) ≡ child-of k
+  pub named-again : (u : Cursor) (k d : ℕ) (r : Bool) → Tracks table parent u → k ≡ u .index → d ≡ fieldAt table parent 0 → r ≡ isChild table (u .row) d → r ≡ true → child.Row (u .first) (u .row) ≡ child-of k
   unfolding childFrom rowAt
   named-again u k d r v same e f t =
       let whole : k ≡ u .index + 0 = omega arith in
       let here = child-here table (u .row) (rowAt table parent .depth) (ap (isChild table (u .row)) (sym e) ∙ sym f ∙ t) in
       let place : u .first ≡ (0 + recordsBetween table (suc parent) (u .row)) % 2 ^ 32 = v .counts ∙ ap (λ (n : ℕ). n % 2 ^ 32) (sym (zero-add (recordsBetween table (suc parent) (u .row)))) in
-      ap (child.Row (u .row)) place ∙ sym (ap (childFrom table (suc parent) 0) (ap (childOfRow table parent) whole ∙ v .resumes 0 ∙ here))
+      ap (λ (n : ℕ). child.Row n (u .row)) place ∙ sym (ap (childFrom table (suc parent) 0) (ap (childOfRow table parent) whole ∙ v .resumes 0 ∙ here))

@@ -62,10 +62,10 @@ fieldTotal table k = total (tabulate (length table / rowBytes) (λ i. fieldAt ta
 unfoldable pub recordsBetween : List ℕ → ℕ → ℕ → ℕ
 recordsBetween table i j = bindingTotal (take (j - i) (drop i (rows table)))
 
--- the row in which a child was found, and the index of its first binding record, where that of row `at` is `first`. The code counts modulo 2 ^ 32
+-- the index of a child's first binding record, where that of row `at` is `first`, and the row in which it was found. The code counts modulo 2 ^ 32
 unfoldable pub childFrom : List ℕ → ℕ → ℕ → Option Row → Child
 childFrom table at first none = child.Missing
-childFrom table at first (some r) = child.Row (r .row) ((first + recordsBetween table at (r .row)) % 2 ^ 32)
+childFrom table at first (some r) = child.Row ((first + recordsBetween table at (r .row)) % 2 ^ 32) (r .row)
 
 -- child k of the prototype in row `parent`
 unfoldable pub childOfRow : List ℕ → ℕ → ℕ → Option Row

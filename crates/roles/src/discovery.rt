@@ -142,7 +142,7 @@ fn claim_child(protos: &[u8], row: usize, cursor: Cursor, k: u32) -> Claim
             cursor,
             companions: Companions::Bindings(0, 0),
         },
-        Child::Row(child, first) => Claim {
+        Child::Row(first, child) => Claim {
             cursor,
             companions: Companions::Bindings(field(protos, child, UPVALUES), first),
         },

@@ -44,8 +44,8 @@ impl Cursor {
                 child: Child::Missing,
                 cursor: Cursor { end: k, ..self },
             },
-            Child::Row(row, first) => Found {
-                child: Child::Row(row, first),
+            Child::Row(first, row) => Found {
+                child: Child::Row(first, row),
                 cursor: Cursor {
                     index: k,
                     row,
@@ -68,7 +68,7 @@ impl Cursor {
         }
         if k == self.index {
             if is_child(protos, self.row, depth) {
-                return Child::Row(self.row, self.first);
+                return Child::Row(self.first, self.row);
             }
         }
         find_child(protos, self.row, depth, k - self.index, self.first)

@@ -21,9 +21,9 @@ pub const UPVALUES: usize = 3;
 
 pub const STACK: usize = 4;
 
-// The row of a child and the place of its first binding record, or that there is none.
+// The place of a child's first binding record and the child's row, or that there is none. (In this order the answer takes 16 bytes.)
 pub enum Child {
-    Row(usize, u32),
+    Row(u32, usize),
     Missing,
 }
 
@@ -32,7 +32,7 @@ pub fn field(protos: &[u8], row: usize, k: usize) -> u32
     requires { ⌜ (rowBytes * row + rowBytes ≤ length (now protos)) × (k < rowFields) ⌝ }
     ensures { λ r. ⌜ r ≡ fieldAt (now (protos .entry)) row k ⌝ }
 {
-    read_u32(protos, ROW_BYTES * row + 4 * k)
+    read_u32(&protos[ROW_BYTES * row..ROW_BYTES * row + ROW_BYTES], 4 * k)
 }
 
 // Child k of a row of this depth, among the rows from `at` on. The rows left fall with each call. The place of its first binding record is
@@ -54,7 +54,7 @@ pub fn find_child(protos: &[u8], at: usize, depth: u32, k: u32, first: u32) -> C
     let next = wrapping_add_u32(first, field(protos, at, UPVALUES));
     if d - depth == 1 {
         if k == 0 {
-            return Child::Row(at, first);
+            return Child::Row(first, at);
         }
         return find_child(protos, at + 1, depth, k - 1, next);
     }

@@ -16,7 +16,7 @@ missing c =
 found : tie.Need-returns-3
 found c =
     let b = c .before .before .before in
-    let e = sym (c .before .row .given .1) ∙ b .search .ensures in
+    let e = sym (c .before .first .given .1) ∙ b .search .ensures in
     (e, moved _ _ _ _ _ _ (b .before .before .before .before .pre .1) (found-child _ _ _ _ _ e))
 
 pub find-spec : {M : Type 1} → statement M

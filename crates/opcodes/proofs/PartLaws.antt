@@ -3,11 +3,11 @@ use Prim.Native.Nat.{ℕ, _+_, _*_, _≤_, _<_}
 use native.Mathlib.Nat.{add-assoc}
 use native.Mathlib.Omega.{arith}
 use mathlib.Core.Path.{_≡_, sym, _∙_, ap, ap₂}
-use mathlib.Core.List.{List, [], _++_, append-assoc}
+use mathlib.Core.List.{List, _++_, append-assoc}
 use lib.ListN.{length, getD, take, drop, length-append, length-drop, take-append-drop}
 use lib.Seq.{length-take-le, take-append-add, take-append-le, drop-append-add, drop-append-le, getD-take, getD-drop, ext-getD}
 use Rattle.opcodes.specs.Bytes.{u32At, u32s, overwrite}
-use Rattle.opcodes.proofs.ByteLaws.{length-u32s, getD-u32s, overwrite-fits, overwrite-front, overwrite-whole}
+use Rattle.opcodes.proofs.ByteLaws.{length-u32s, getD-u32s, overwrite-fits}
 
 -- ---- reading
 
@@ -65,12 +65,3 @@ module _ (xs : List ℕ) (a k i : ℕ) (new : List ℕ) (fits : i + length new �
       let front : length (take a xs) ≡ a = length-take-le a xs (omega arith) in
       paste-part (take a xs) (take k (drop a xs)) (drop k (drop a xs)) i new (omega arith)
       ∙ ap₂ (λ (l : List ℕ) (n : ℕ). overwrite l (n + i) new) (by-part xs a k) front
-
--- a write over one of the same length
-pub overwrite-again : (old new more : List ℕ) → length new ≤ length old → length more ≡ length new → overwrite (overwrite old 0 new) 0 more ≡ overwrite old 0 more
-overwrite-again old new more h e =
-    let rest = drop (length new) old in
-    ap (λ (l : List ℕ). overwrite l 0 more) (overwrite-front old new h)
-    ∙ sym (paste-part [] new rest 0 more (omega arith))
-    ∙ ap (λ (l : List ℕ). l ++ rest) (overwrite-whole new more e)
-    ∙ sym (overwrite-front old more (omega arith) ∙ ap (λ (n : ℕ). more ++ drop n old) e)

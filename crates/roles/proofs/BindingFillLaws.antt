@@ -3,30 +3,30 @@ use Prim.Native.Nat.{ℕ, zero, suc, _+_, _*_, _/_, _≤_, _<_}
 use native.Mathlib.Nat.{add-zero}
 use native.Mathlib.Numerals.{add-one}
 use native.Mathlib.Omega.{arith}
-use mathlib.Core.Path.{_≡_, refl, sym, _∙_, ap, ap₂}
+use mathlib.Core.Path.{_≡_, refl, sym, _∙_, ap, ap₂, subst⁻¹}
 use mathlib.Core.List.{List, [], _∷_, _++_, foldl, flatMap, append-assoc}
 use mathlib.Core.Option.{Option, none, some}
 use lib.ListN.{length, getD, take, drop, set, replicate, take-append-drop, length-set, length-replicate}
 use lib.Seq.{take-all, set-split, take-suc, drop-drop, drop-cons, length-take-le}
 use Rattle.opcodes.specs.Lists.{All, all-nil, all-cons, upFrom}
-use Rattle.opcodes.specs.Bytes.{u32s, overwrite}
+use Rattle.opcodes.specs.Bytes.{overwrite}
 use Rattle.opcodes.specs.Words.{is, fieldBx, CLOSURE}
 use Rattle.roles.specs.Table.{Row, rowBytes, fieldAt, rowAt, rows, Proto, protoOf, childAt}
 use Rattle.roles.specs.Roles.{wordAt, executableAt, bindingCount, existing, bindingWords}
 use Rattle.roles.specs.Bindings.{Binding, unbound, Write, bindingOf, writeOf, writesAt, writes, firstBinding, bindingTotal, setBinding, bindRows, bindings, bindingBytes, bindingRecords}
-use Rattle.roles.specs.Refusals.{rolesRefusal, maxBindings}
-use Rattle.roles.specs.Calls.{imageBindings}
-use Rattle.roles.specs.Contracts.{childOfRow, protoIn, stored, boundIn}
+use Rattle.roles.specs.Refusals.{rolesRefusal, maxBindings, wordTotal}
+use Rattle.roles.specs.Contracts.{childOfRow, protoIn, RoomForAllOrNone, BindsFrom, stored, boundIn, boundRows}
+use Rattle.opcodes.proofs.ListLaws.{foldl-next}
 use Rattle.opcodes.proofs.AllLaws.{all-flatMap, all-map, all-of, all-imp, all-upTo}
 use Rattle.opcodes.proofs.TestLaws.{by-cond}
-use Rattle.opcodes.proofs.ByteLaws.{length-overwrite, overwrite-front, overwrite-whole}
-use Rattle.opcodes.proofs.PartLaws.{paste-part, overwrite-again}
+use Rattle.opcodes.proofs.ByteLaws.{overwrite-front, overwrite-whole}
+use Rattle.opcodes.proofs.PartLaws.{paste-part}
 use Rattle.roles.proofs.TableLaws.{length-rows, getD-rows, drop-rows}
-use Rattle.roles.proofs.TotalLaws.{records-front, records-next, records-most}
+use Rattle.roles.proofs.TotalLaws.{words-next, records-next, records-most}
 use Rattle.roles.proofs.RowCheckLaws.{rows-end}
 use Rattle.roles.proofs.RefusalLaws.{ImageKept, roles-kept}
 use Rattle.roles.proofs.BindingRecordLaws.{length-bindings, bindings-append}
-use Rattle.roles.proofs.BindingPassLaws.{child-records}
+use Rattle.roles.proofs.BindingPassLaws.{child-records, length-boundIn}
 
 -- ---- one record among others
 
@@ -113,14 +113,62 @@ module _ (table : List ℕ) (row : ℕ) (ws old : List ℕ) (room : bindingBytes
       let more = all-stored (setIn table row bs v) vs (one .1) hs in
       (ap (boundIn table row vs) (one .0) ∙ more .0, more .1)
 
--- ---- row by row
+-- ---- row by row, in the list of bindings
 
-pub record BindFill (table words old out : List ℕ) (row first base : ℕ) : Type 0 where
-  pub made : List Binding
-  pub size : length made ≡ bindingTotal (rows table)
+abbrev wordsOf : List ℕ → List ℕ → ℕ → List ℕ
+wordsOf table words row = drop (wordTotal (take row (rows table))) words
+
+record BindFill (table words old out : List ℕ) (row : ℕ) : Type 0 where
+  made : List Binding
+  size : length made ≡ bindingTotal (rows table)
+  written : out ≡ overwrite old 0 (bindingRecords made)
+  left : bindRows (rows table) (drop row (rows table)) (wordsOf table words row) made ≡ bindings (rows table) words
+
+module _ (table words old first : List ℕ) (room : bindingBytes * bindingTotal (rows table) ≤ length old) (unbound-first : first ≡ overwrite old 0 (bindingRecords (replicate (bindingTotal (rows table)) unbound))) where
+  bind-begins : BindFill table words old first 0
+  unfolding bindings wordTotal
+  bind-begins = record { made = replicate (bindingTotal (rows table)) unbound; size = length-replicate (bindingTotal (rows table)) unbound; written = unbound-first; left = refl }
+
+  bind-next : (out : List ℕ) (row : ℕ) → BindFill table words old out row → row < length table / rowBytes
+      → BindFill table words old (boundIn table row (writes (protoIn table row (wordsOf table words row))) out) (suc row)
+  unfolding bindRows protoIn childOfRow
+  bind-next out row v there =
+      let ws = wordsOf table words row in
+      let vs = writes (protoIn table row ws) in
+      let more = all-stored table row ws old room (v .made) vs (v .size) (writes-inside (protoIn table row ws)) in
+      let n = words-next (rows table) row (rowAt table row) (omega (arith, length-rows table)) ∙ ap (λ (r : Row). wordTotal (take row (rows table)) + r .words) (getD-rows table row (rowAt table row) there) in
+      let words-left : wordsOf table words (suc row) ≡ drop (rowAt table row .words) ws = ap (λ (k : ℕ). drop k words) n ∙ sym (drop-drop (rowAt table row .words) (wordTotal (take row (rows table))) words) in
+      record {
+        made = foldl (setIn table row) (v .made) vs;
+        size = more .1;
+        written = ap (boundIn table row vs) (v .written) ∙ more .0;
+        left =
+            ap (λ (l : List ℕ). bindRows (rows table) (drop (suc row) (rows table)) l (foldl (setIn table row) (v .made) vs)) words-left
+            ∙ sym (ap (λ (rs : List Row). bindRows (rows table) rs ws (v .made)) (drop-rows table row there))
+            ∙ v .left;
+      }
+
+  bind-rows : (n : ℕ) → n ≤ length table / rowBytes → BindFill table words old (boundRows table words n first) n
+  unfolding boundRows
+  bind-rows zero h = bind-begins
+  bind-rows (suc n) h =
+      subst⁻¹ (λ (l : List ℕ). BindFill table words old l (suc n)) (foldl-next (λ (out : List ℕ) i. boundIn table i (writes (protoIn table i (wordsOf table words i))) out) first n)
+      (bind-next (boundRows table words n first) n (bind-rows n (omega arith)) h)
+
+  -- all of them: what the definitions say
+  pub rows-bound : boundRows table words (length table / rowBytes) first ≡ overwrite old 0 (bindingRecords (bindings (rows table) words))
+  unfolding bindRows
+  rows-bound =
+      let n = length table / rowBytes in
+      let v = bind-rows n (omega arith) in
+      v .written
+      ∙ ap (λ (bs : List Binding). overwrite old 0 (bindingRecords bs)) (sym (ap (λ (rs : List Row). bindRows (rows table) rs (wordsOf table words n) (v .made)) (rows-end table n (omega arith))) ∙ v .left)
+
+-- ---- as the code goes over the rows
+
+pub record RowsBound (table words old out : List ℕ) (row base : ℕ) : Type 0 where
+  pub bound : out ≡ boundRows table words row old
   pub long : length out ≡ length old
-  pub written : out ≡ overwrite old 0 (bindingRecords made)
-  pub left : bindRows (rows table) (drop row (rows table)) (drop first (u32s words)) made ≡ imageBindings table words
   pub before : base ≡ firstBinding (rows table) row
 
 -- an accepted table has so many upvalues at most
@@ -129,37 +177,15 @@ few-records table words roleLength accepted =
     let kept = roles-kept table words roleLength accepted .image in
     omega (arith, records-most 255 (all-imp (λ r h. h .upvalues) (kept .fields)), kept .row-limit)
 
--- it begins with a buffer whose records bind nothing
-pub bind-fill-begins : (table words first old : List ℕ) (count : ℕ) → count ≡ bindingTotal (rows table) → bindingBytes * count ≤ length first → old ≡ overwrite first 0 (bindingRecords (replicate count unbound))
-    → BindFill table words old old 0 0 0
-unfolding imageBindings bindings firstBinding bindingTotal
-bind-fill-begins table words first old count e room d =
-    let none-bound = bindingRecords (replicate count unbound) in
-    let again : old ≡ overwrite old 0 none-bound =
-    d ∙ sym (ap (λ (l : List ℕ). overwrite l 0 none-bound) d ∙ overwrite-again first none-bound none-bound (omega (arith, length-bindings (replicate count unbound), length-replicate count unbound)) refl) in
-    record {
-      made = replicate (bindingTotal (rows table)) unbound;
-      size = length-replicate (bindingTotal (rows table)) unbound;
-      long = refl;
-      written = again ∙ ap (λ (n : ℕ). overwrite old 0 (bindingRecords (replicate n unbound))) e;
-      left = refl;
-      before = refl;
-    }
-
--- and ends with all of them written over these
-pub bind-fill-ends : (table words first old out : List ℕ) (count row place base : ℕ) → count ≡ bindingTotal (rows table) → bindingBytes * count ≤ length first → old ≡ overwrite first 0 (bindingRecords (replicate count unbound))
-    → BindFill table words old out row place base → length table / rowBytes ≤ row → out ≡ overwrite first 0 (bindingRecords (imageBindings table words))
-unfolding bindRows
-bind-fill-ends table words first old out count row place base e room d v h =
-    let us = replicate count unbound in
-    let all : v .made ≡ imageBindings table words = sym (ap (λ (rs : List Row). bindRows (rows table) rs (drop place (u32s words)) (v .made)) (rows-end table row h)) ∙ v .left in
-    v .written
-    ∙ ap₂ (λ (l : List ℕ) (bs : List Binding). overwrite l 0 (bindingRecords bs)) d all
-    ∙ overwrite-again first (bindingRecords us) (bindingRecords (imageBindings table words)) (omega (arith, length-bindings us, length-replicate count unbound))
-    (omega (arith, length-bindings us, length-replicate count unbound, length-bindings (imageBindings table words), ap length all, v .size))
-
 module _ (table words old : List ℕ) where
-  module _ (out : List ℕ) (row first base : ℕ) (v : BindFill table words old out row first base) where
+  pub rows-begin : RowsBound table words old old 0 0
+  unfolding boundRows firstBinding bindingTotal
+  rows-begin = record { bound = refl; long = refl; before = refl }
+
+  module _ (out : List ℕ) (row base : ℕ) (v : RowsBound table words old out row base) where
+    pub rows-end-bound : row ≤ length table / rowBytes → length table / rowBytes ≤ row → out ≡ boundRows table words (length table / rowBytes) old
+    rows-end-bound h l = let e : row ≡ length table / rowBytes = omega arith in v .bound ∙ ap (λ (n : ℕ). boundRows table words n old) e
+
     module _ (there : row < length table / rowBytes) (u : ℕ) (own : u ≡ fieldAt table row 3) where
       pub base-next : base + u ≡ firstBinding (rows table) (suc row)
       unfolding rowAt
@@ -167,23 +193,20 @@ module _ (table words old : List ℕ) where
           let r : getD (rows table) row (rowAt table row) .upvalues ≡ u = ap (λ (x : Row). x .upvalues) (getD-rows table row (rowAt table row) there) ∙ sym own in
           omega (arith, records-next (rows table) row (rowAt table row) (omega (arith, length-rows table)), v .before)
 
-      pub bind-fill-next : (n : ℕ) (new : List ℕ) → rowAt table row .words ≡ n → bindingBytes * bindingTotal (rows table) ≤ length old
-          → new ≡ boundIn table row (writes (protoIn table row (drop first (u32s words)))) out → BindFill table words old new (row + 1) (first + n) (base + u)
-      unfolding bindRows protoIn childOfRow
-      bind-fill-next n new stated room e =
-          let ws = drop first (u32s words) in
-          let vs = writes (protoIn table row ws) in
-          let more = all-stored table row ws old room (v .made) vs (v .size) (writes-inside (protoIn table row ws)) in
-          let done : new ≡ overwrite old 0 (bindingRecords (foldl (setIn table row) (v .made) vs)) = e ∙ ap (boundIn table row vs) (v .written) ∙ more .0 in
-          let words-left : drop (first + n) (u32s words) ≡ drop (rowAt table row .words) ws = sym (ap (λ (k : ℕ). drop k ws) stated ∙ drop-drop n first (u32s words)) in
+      pub binds-from : bindingTotal (rows table) ≤ maxBindings → RoomForAllOrNone table (length old) → BindsFrom table row (base + u) (length out)
+      binds-from few fits =
+          record { begins = base-next; few = few; fits = subst⁻¹ (RoomForAllOrNone table) (v .long) fits }
+
+      pub rows-next : (new : List ℕ) (first : ℕ) → first ≡ wordTotal (take row (rows table)) → new ≡ boundIn table row (writes (protoIn table row (drop first words))) out → RowsBound table words old new (row + 1) (base + u)
+      unfolding boundRows
+      rows-next new first place e =
+          let step : List ℕ → ℕ → List ℕ = λ l i. boundIn table i (writes (protoIn table i (wordsOf table words i))) l in
+          let done : new ≡ boundRows table words (row + 1) old =
+          e
+          ∙ ap₂ (λ (n : ℕ) (l : List ℕ). boundIn table row (writes (protoIn table row (drop n words))) l) place (v .bound)
+          ∙ sym (ap (λ (n : ℕ). boundRows table words n old) (add-one row) ∙ foldl-next step old row) in
           record {
-            made = foldl (setIn table row) (v .made) vs;
-            size = more .1;
-            long = ap length done ∙ length-overwrite old 0 _;
-            written = done;
-            left =
-                ap₂ (λ (k : ℕ) (l : List ℕ). bindRows (rows table) (drop k (rows table)) l (foldl (setIn table row) (v .made) vs)) (add-one row) words-left
-                ∙ sym (ap (λ (rs : List Row). bindRows (rows table) rs ws (v .made)) (drop-rows table row there))
-                ∙ v .left;
+            bound = done;
+            long = ap length e ∙ length-boundIn table row _ out ∙ v .long;
             before = base-next ∙ ap (firstBinding (rows table)) (sym (add-one row));
           }

@@ -16,8 +16,7 @@ use Rattle.opcodes.specs.Words.{is, fieldBx, CLOSURE}
 use Rattle.roles.specs.Table.{Row, rowBytes, rowAt, rows, Proto, protoOf}
 use Rattle.roles.specs.Roles.{ClosureBinding, hasExtra, wordAt, executableAt, Executable, bindingCount, existing, companions, bindingWords}
 use Rattle.roles.specs.Bindings.{Binding, Write, bindingOf, writeOf, writesAt, writes, firstBinding, bindingTotal, bindingBytes, bindingRecords}
-use Rattle.roles.specs.Refusals.{maxBindings}
-use Rattle.roles.specs.Contracts.{recordsBetween, childOfRow, protoIn, recordsBefore, childBindings, companionsOf, claimedRoles, existingRoles, boundBy, boundFrom, boundClaim, Bindable, stored, boundIn}
+use Rattle.roles.specs.Contracts.{recordsBetween, childOfRow, protoIn, recordsBefore, childBindings, companionsOf, claimedRoles, existingRoles, boundBy, boundFrom, boundClaim, RoomForAllOrNone, BindsFrom, Bindable, stored, boundIn}
 use Rattle.roles.specs.declared.search.Cursor.{Cursor}
 use Rattle.roles.specs.declared.discovery.Companions.{Companions}
 use Rattle.roles.specs.declared.discovery.Companions.the-variants.{None, Bindings, Extra}
@@ -122,7 +121,7 @@ module _ (table : List ℕ) (row : ℕ) (code : List ℕ) where
       ∙ ap (λ (l : List Write). flatMap (writesAt p) (upFrom 0 pc) ++ l) (append-nil (writesAt p pc))
 
   -- an executable word, and the companions that exist
-  module _ (code-of : p .code ≡ u32s code) (base : ℕ) (after : base ≡ firstBinding (rows table) (suc row)) (few : bindingTotal (rows table) ≤ maxBindings)
+  module _ (code-of : p .code ≡ u32s code) (base room : ℕ) (binds-from : BindsFrom table row base room)
       (pc k w : ℕ) (cs : Companions) (o : OwnerHere p pc w k) (owns : cs ≡ companionsOf table row w) (size : k ≡ length (existingRoles (length code / 4) pc cs)) where
     -- a CLOSURE binds as many upvalues as there are words for them
     module _ (closure : is w (CLOSURE ∷ []) ≡ true) where
@@ -160,7 +159,7 @@ module _ (table : List ℕ) (row : ℕ) (code : List ℕ) where
       -- they are the child's records
       place : (c : Row) → named ≡ some c → firstBinding (rows table) (c .row) ≡ base + recordsBefore table row (some c)
       unfolding recordsBefore
-      place c e = let r = child-records table row (fieldBx w) c e in omega (arith, after, r .begin, records-front (rows table) (c .row))
+      place c e = let r = child-records table row (fieldBx w) c e in omega (arith, binds-from .begins, binds-from .few, r .begin, records-front (rows table) (c .row))
 
       by-child : (c : Option Row) → named ≡ c → (out : List ℕ) → boundIn table row (writesAt p pc) out ≡ boundFrom (u32s code) (pc + 1) (base + recordsBefore table row c) k out
       unfolding flatMap boundIn boundFrom
@@ -181,16 +180,20 @@ module _ (table : List ℕ) (row : ℕ) (code : List ℕ) where
       unfolding boundClaim
       closure-bound out = by-child named refl out ∙ sym (ap (λ (c : Companions). boundClaim (u32s code) pc base k c out) claim)
 
-      closure-bindable : (room : ℕ) → bindingBytes * bindingTotal (rows table) ≤ room → Bindable base k room cs
+      closure-bindable : Bindable base k room cs
       unfolding Bindable recordsBefore
-      closure-bindable room h = subst (Bindable base k room) (sym claim) (omega (arith, claimed), go named refl)
+      closure-bindable = subst (Bindable base k room) (sym claim) (omega (arith, claimed), fits (binds-from .fits))
         where
-          go : (c : Option Row) → named ≡ c → bindingBytes * (base + recordsBefore table row c + upvalues) ≤ room
-          go none e = omega (arith, none-missing table row (fieldBx w) e, after, records-front (rows table) (suc row))
-          go (some c) e =
+          all : (c : Option Row) → named ≡ c → bindingBytes * bindingTotal (rows table) ≤ room → bindingBytes * (base + recordsBefore table row c + upvalues) ≤ room
+          all none e h = omega (arith, none-missing table row (fieldBx w) e, binds-from .begins, records-front (rows table) (suc row))
+          all (some c) e h =
               let r = child-records table row (fieldBx w) c e in
               let at : firstBinding (rows table) (c .row) ≡ base + recordsBefore table row (some c) = place c e in
               omega (arith, at, r .inside, r .upvalues)
+
+          fits : RoomForAllOrNone table room → (room < bindingBytes) ⊎ (bindingBytes * (base + recordsBefore table row named + upvalues) ≤ room)
+          fits (inl less) = inl less
+          fits (inr enough) = inr (all named refl enough)
 
     -- another word binds nothing
     module _ (other : is w (CLOSURE ∷ []) ≡ false) where
@@ -218,9 +221,9 @@ module _ (table : List ℕ) (row : ℕ) (code : List ℕ) where
           go (inl e) = sym (ap (λ (c : Companions). boundClaim (u32s code) pc base k c out) e)
           go (inr e) = sym (ap (λ (c : Companions). boundClaim (u32s code) pc base k c out) e)
 
-      other-bindable : (room : ℕ) → Bindable base k room cs
+      other-bindable : Bindable base k room cs
       unfolding Bindable
-      other-bindable room = go other-claim
+      other-bindable = go other-claim
         where
           go : (cs ≡ Extra) ⊎ (cs ≡ None) → Bindable base k room cs
           go (inl e) = subst (Bindable base k room) (sym e) tt
@@ -233,12 +236,12 @@ module _ (table : List ℕ) (row : ℕ) (code : List ℕ) where
         go true e = closure-bound e out
         go false e = other-bound e out
 
-    pub bindable-here : (room : ℕ) → bindingBytes * bindingTotal (rows table) ≤ room → Bindable base k room cs
-    bindable-here room h = go (is w (CLOSURE ∷ [])) refl
+    pub bindable-here : Bindable base k room cs
+    bindable-here = go (is w (CLOSURE ∷ [])) refl
       where
         go : (b : Bool) → is w (CLOSURE ∷ []) ≡ b → Bindable base k room cs
-        go true e = closure-bindable e room h
-        go false e = other-bindable e room
+        go true e = closure-bindable e
+        go false e = other-bindable e
 
     pub bind-next : (old out new : List ℕ) → BindPass table row code old out pc → new ≡ boundClaim (u32s code) pc base k cs out → BindPass table row code old new (pc + (1 + k))
     bind-next old out new v d =

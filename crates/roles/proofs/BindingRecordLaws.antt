@@ -4,7 +4,7 @@ use native.Mathlib.Nat.{zero-add, add-zero}
 use native.Mathlib.Numerals.{add-one}
 use native.Mathlib.Omega.{arith}
 use mathlib.Core.Path.{_≡_, refl, sym, _∙_, ap, ap₂, subst}
-use mathlib.Core.Bool.{Bool, true, false}
+use mathlib.Core.Logic.{_⊎_, inl, inr}
 use mathlib.Core.List.{List, [], _∷_, _++_, map, flatMap, foldl, append-assoc, append-nil, map-append}
 use lib.ListN.{length, getD, take, drop, replicate, length-replicate, length-drop}
 use lib.Seq.{length-take-le}
@@ -18,7 +18,7 @@ use Rattle.roles.specs.Contracts.{boundBy, boundFrom, boundClaim, Bindab
 use Rattle.roles.specs.declared.discovery.Companions.{Companions}
 use Rattle.roles.specs.declared.discovery.Companions.the-variants.{None, Bindings, Extra}
 use Rattle.opcodes.proofs.ListLaws.{flatMap-append, length-flatMap, foldl-next}
-use Rattle.opcodes.proofs.ByteLaws.{length-i32Record, u32Record-append, length-overwrite, overwrite-none, overwrite-next, overwrite-front}
+use Rattle.opcodes.proofs.ByteLaws.{length-i32Record, u32Record-append, length-overwrite, overwrite-none, overwrite-unfit, overwrite-next}
 use Rattle.opcodes.proofs.PartLaws.{paste-part, by-part}
 use Rattle.roles.proofs.OwnerLaws.{has-opcode, has-other}
 
@@ -63,17 +63,19 @@ unbound-next old m new i room e d =
 -- ---- a binding word
 
 module _ (i pc w : ℕ) (r : RawInstruction51) (split : r ≡ decoded w) (old : List ℕ) where
-  index : r .b % 256 ≡ bindingIndex w
-  unfolding decoded bindingIndex
-  index = ap (λ (x : RawInstruction51). x .b % 256) split
+  -- its index is x
+  module _ (x : ℕ) (given : x ≡ r .b % 256) (new : List ℕ) where
+    index : x ≡ bindingIndex w
+    unfolding decoded bindingIndex
+    index = given ∙ ap (λ (y : RawInstruction51). y .b % 256) split
 
-  pub bound-move : (new : List ℕ) → r .«opcode_num» ≡ MOVE → new ≡ overwrite old (bindingBytes * i) (u32Record (1 ∷ r .b % 256 ∷ pc ∷ [])) → new ≡ boundBy i pc w old
-  unfolding boundBy bindingOf only i32Bits
-  bound-move new e d = d ∙ rw (has-opcode w r split MOVE e, has-other w r split GETUPVAL (λ f. omega arith), index, one-binding)
+    pub bound-move : r .«opcode_num» ≡ MOVE → new ≡ overwrite old (bindingBytes * i) (u32Record (1 ∷ x ∷ pc ∷ [])) → new ≡ boundBy i pc w old
+    unfolding boundBy bindingOf only i32Bits
+    bound-move e d = d ∙ rw (has-opcode w r split MOVE e, has-other w r split GETUPVAL (λ f. omega arith), index, one-binding)
 
-  pub bound-getupval : (new : List ℕ) → (r .«opcode_num» ≡ MOVE → ⊥) → r .«opcode_num» ≡ GETUPVAL → new ≡ overwrite old (bindingBytes * i) (u32Record (0 ∷ r .b % 256 ∷ pc ∷ [])) → new ≡ boundBy i pc w old
-  unfolding boundBy bindingOf only i32Bits
-  bound-getupval new f e d = d ∙ rw (has-other w r split MOVE f, has-opcode w r split GETUPVAL e, index, one-binding)
+    pub bound-getupval : (r .«opcode_num» ≡ MOVE → ⊥) → r .«opcode_num» ≡ GETUPVAL → new ≡ overwrite old (bindingBytes * i) (u32Record (0 ∷ x ∷ pc ∷ [])) → new ≡ boundBy i pc w old
+    unfolding boundBy bindingOf only i32Bits
+    bound-getupval f e d = d ∙ rw (has-other w r split MOVE f, has-opcode w r split GETUPVAL e, index, one-binding)
 
   pub bound-other : (r .«opcode_num» ≡ MOVE → ⊥) → (r .«opcode_num» ≡ GETUPVAL → ⊥) → old ≡ boundBy i pc w old
   unfolding boundBy bindingOf only
@@ -156,21 +158,50 @@ child-bound words old part pc first size count n whole few inside e =
     ∙ pasted-words (take at old) (drop size (drop at old)) first (length-take-le at old (omega arith)) words pc count (take size (drop at old)) (omega arith)
     ∙ ap (boundFrom words pc first count) (by-part old at size)
 
+-- ---- in a buffer that has room for no record
+
+records-unfit : (i : ℕ) (bs : List Binding) (old : List ℕ) → length old < bindingBytes → foldl (λ (out : List ℕ) b. overwrite out (bindingBytes * i) (bindingRecords (b ∷ []))) old bs ≡ old
+records-unfit i [] old h = refl
+records-unfit i (b ∷ bs) old h =
+    ap (λ (l : List ℕ). foldl (λ (out : List ℕ) b. overwrite out (bindingBytes * i) (bindingRecords (b ∷ []))) l bs)
+    (overwrite-unfit old (bindingBytes * i) (bindingRecords (b ∷ [])) (omega (arith, length-bindings (b ∷ []))))
+    ∙ records-unfit i bs old h
+
+words-unfit : (words : List ℕ) (pc first n : ℕ) (old : List ℕ) → length old < bindingBytes → boundFrom words pc first n old ≡ old
+unfolding boundBy
+words-unfit words pc first zero old h = sym (bound-none words pc first old)
+words-unfit words pc first (suc n) old h =
+    bound-next words pc first n old
+    ∙ ap (boundBy (first + n) (pc + n) (getD words (pc + n) 0)) (words-unfit words pc first n old h)
+    ∙ records-unfit (first + n) (bindingOf (pc + n) (getD words (pc + n) 0)) old h
+
 -- ---- what an owner's companions bind
 
 module _ (words old new : List ℕ) (pc base count : ℕ) (cs : Companions) where
+  claim-is : (x : Companions) → cs ≡ x → new ≡ boundClaim words pc base count x old → new ≡ boundClaim words pc base count cs old
+  claim-is x e d = d ∙ sym (ap (λ (y : Companions). boundClaim words pc base count y old) e)
+
   pub claim-none : cs ≡ None → new ≡ old → new ≡ boundClaim words pc base count cs old
   unfolding boundClaim
-  claim-none e d = d ∙ sym (ap (λ (x : Companions). boundClaim words pc base count x old) e)
-
-  pub claim-bound : (n first : ℕ) → cs ≡ Bindings n first → new ≡ boundFrom words (pc + 1) (base + first) count old → new ≡ boundClaim words pc base count cs old
-  unfolding boundClaim
-  claim-bound n first e d = d ∙ sym (ap (λ (x : Companions). boundClaim words pc base count x old) e)
+  claim-none e d = claim-is None e d
 
   pub claim-extra : cs ≡ Extra → new ≡ old → new ≡ boundClaim words pc base count cs old
   unfolding boundClaim
-  claim-extra e d = d ∙ sym (ap (λ (x : Companions). boundClaim words pc base count x old) e)
+  claim-extra e d = claim-is Extra e d
 
-pub bindable-child : (base count room : ℕ) (cs : Companions) (n first : ℕ) → cs ≡ Bindings n first → Bindable base count room cs → (count ≤ n) × (bindingBytes * (base + first + n) ≤ room)
+  module _ (n first : ℕ) (e : cs ≡ Bindings n first) where
+    pub claim-bound : new ≡ boundFrom words (pc + 1) (base + first) count old → new ≡ boundClaim words pc base count cs old
+    unfolding boundClaim
+    claim-bound d = claim-is (Bindings n first) e d
+
+    pub claim-unfit : length old < bindingBytes → new ≡ old → new ≡ boundClaim words pc base count cs old
+    claim-unfit h d = claim-bound (d ∙ sym (words-unfit words (pc + 1) (base + first) count old h))
+
+-- there is room for some records, and so for those of the child
+pub bindable-child : (base count room : ℕ) (cs : Companions) (n first : ℕ) → cs ≡ Bindings n first → bindingBytes ≤ room → Bindable base count room cs → (count ≤ n) × (bindingBytes * (base + first + n) ≤ room)
 unfolding Bindable
-bindable-child base count room cs n first e h = subst (Bindable base count room) e h
+bindable-child base count room cs n first e some h = let b = subst (Bindable base count room) e h in (b .0, go (b .1))
+  where
+    go : (room < bindingBytes) ⊎ (bindingBytes * (base + first + n) ≤ room) → bindingBytes * (base + first + n) ≤ room
+    go (inl less) = absurd (omega arith)
+    go (inr fits) = fits

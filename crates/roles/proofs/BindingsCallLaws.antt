@@ -7,18 +7,20 @@ use mathlib.Core.Option.{Option, none, some}
 use lib.ListN.{length, set, drop, replicate, length-set, length-replicate}
 use borrow.Author.Tests.{lt-ltb, le-ltb}
 use Rattle.opcodes.specs.Bytes.{u32s, overwrite}
-use Rattle.roles.specs.Table.{Row, rows, protos, protoOf, childAt}
+use Rattle.roles.specs.Table.{Row, rowBytes, rows, protos, protoOf, childAt}
 use Rattle.roles.specs.Roles.{roles, recordsOf}
 use Rattle.roles.specs.Bindings.{Binding, unbound, Write, writes, bindingTotal, setBinding, bindRows, bindings, bindingBytes, bindingRecords}
-use Rattle.roles.specs.Refusals.{Refused, refuse, refuseIf, orElse, rolesRefusal, tooShort}
+use Rattle.roles.specs.Refusals.{Refused, refuse, refuseIf, orElse, maxBindings, rolesRefusal, tooShort}
 use Rattle.roles.specs.Calls.{answer, filled, rolesAfter, imageBindings, bindingsRefusal, bindingsAnswer, bindingsAfter}
-use Rattle.roles.specs.Contracts.{refusedOf, givenRefusal, answerOf, fieldTotal}
+use Rattle.roles.specs.Contracts.{refusedOf, givenRefusal, answerOf, fieldTotal, boundRows}
 use Rattle.roles.specs.declared.refusals.Refusal.{Refusal}
 use Rattle.roles.specs.declared.refusals.Refusal.the-variants as refusal
 use Rattle.roles.specs.declared.refusals.Acceptance.{Acceptance}
 use Rattle.roles.specs.declared.refusals.Acceptance.the-variants as acceptance
 use Rattle.roles.specs.declared.calls.Answer.the-variants as answered
 use Rattle.roles.proofs.TotalLaws.{record-fields}
+use Rattle.roles.proofs.RolesCallLaws.{not-refused}
+use Rattle.roles.proofs.BindingFillLaws.{few-records, rows-bound}
 
 -- ---- there is a record for each upvalue
 
@@ -61,16 +63,26 @@ module _ (table words roleBuffer bindingBuffer : List ℕ) (a : Acceptance) (jud
 
 -- ---- 8, and an accepted call
 
-module _ (table words : List ℕ) (roleLength : ℕ) (bindingBuffer : List ℕ) (accepted : rolesRefusal table words roleLength ≡ none) (n : ℕ) (count : n ≡ fieldTotal table 3) where
-  pub record-count : n ≡ bindingTotal (rows table)
-  record-count = count ∙ sym (record-fields table)
+-- none of 1 to 7 applies, and there are n records
+pub record CallKept (table words : List ℕ) (roleLength n : ℕ) : Type 0 where
+  pub accepted : rolesRefusal table words roleLength ≡ none
+  pub count : n ≡ bindingTotal (rows table)
+  pub few : n ≤ maxBindings
 
+pub call-kept : (table words : List ℕ) (roleLength : ℕ) (a : Acceptance) → givenRefusal a ≡ rolesRefusal table words roleLength → a ≡ acceptance.Accepted → (n : ℕ) → n ≡ fieldTotal table 3
+    → CallKept table words roleLength n
+call-kept table words roleLength a judged e n count =
+    let ok = not-refused table words roleLength a judged e in
+    let same = count ∙ sym (record-fields table) in
+    record { accepted = ok; count = same; few = omega (arith, same, few-records table words roleLength ok) }
+
+module _ (table words : List ℕ) (roleLength : ℕ) (bindingBuffer : List ℕ) (n : ℕ) (kept : CallKept table words roleLength n) where
   image-count : n ≡ length (imageBindings table words)
-  image-count = record-count ∙ sym (length-image table words)
+  image-count = kept .count ∙ sym (length-image table words)
 
   judged-by : (o : Option Refused) → tooShort (length (imageBindings table words)) bindingBytes (length bindingBuffer) ≡ o → bindingsRefusal table words roleLength (length bindingBuffer) ≡ o
   unfolding bindingsRefusal orElse
-  judged-by o e = ap (λ (x : Option Refused). orElse x (tooShort (length (imageBindings table words)) bindingBytes (length bindingBuffer))) accepted ∙ e
+  judged-by o e = ap (λ (x : Option Refused). orElse x (tooShort (length (imageBindings table words)) bindingBytes (length bindingBuffer))) (kept .accepted) ∙ e
 
   short : length bindingBuffer / bindingBytes < n → bindingsRefusal table words roleLength (length bindingBuffer) ≡ refuse 8 n
   unfolding tooShort refuseIf
@@ -92,10 +104,14 @@ module _ (table words : List ℕ) (roleLength : ℕ) (bindingBuffer : List ℕ) 
     sym (ap (λ (x : Option Refused). filled x bindingBuffer (bindingRecords (imageBindings table words))) (short h)),
   )
 
-  pub accepted-call : (new : List ℕ) → n ≤ length bindingBuffer / bindingBytes → new ≡ overwrite bindingBuffer 0 (bindingRecords (imageBindings table words))
+  -- the records that bind nothing are written first, and bound row by row
+  pub accepted-call : (first new : List ℕ) → n ≤ length bindingBuffer / bindingBytes → first ≡ overwrite bindingBuffer 0 (bindingRecords (replicate n unbound))
+      → new ≡ boundRows table (u32s words) (length table / rowBytes) first
       → (answerOf (answered.Records n) ≡ bindingsAnswer table words roleLength (length bindingBuffer)) × (new ≡ bindingsAfter table words roleLength bindingBuffer)
-  unfolding answerOf bindingsAnswer bindingsAfter answer filled
-  accepted-call new h e = (
+  unfolding answerOf bindingsAnswer bindingsAfter answer filled imageBindings
+  accepted-call first new h d e = (
     ap (λ (k : ℕ). answer none k) image-count ∙ sym (ap (λ (x : Option Refused). answer x (length (imageBindings table words))) (enough h)),
-    e ∙ sym (ap (λ (x : Option Refused). filled x bindingBuffer (bindingRecords (imageBindings table words))) (enough h)),
+    e
+        ∙ rows-bound table (u32s words) bindingBuffer first (omega (arith, kept .count)) (d ∙ ap (λ (k : ℕ). overwrite bindingBuffer 0 (bindingRecords (replicate k unbound))) (kept .count))
+        ∙ sym (ap (λ (x : Option Refused). filled x bindingBuffer (bindingRecords (imageBindings table words))) (enough h)),
   )

@@ -1,6 +1,7 @@
 -- What the code's own types stand for: the terms in which its contracts cite the other definitions. Assumes nothing: these are definitions.
 use Prim.Native.Nat.{ℕ, suc, _+_, _-_, _*_, _/_, _%_, _^_, _≤_, _<_}
 use mathlib.Core.Path.{_≡_}
+use mathlib.Core.Logic.{_⊎_}
 use mathlib.Core.Bool.{Bool, _&&_, cond}
 use mathlib.Core.List.{List, [], _∷_, foldl}
 use mathlib.Core.Option.{Option, none, some}
@@ -13,7 +14,7 @@ use Rattle.opcodes.specs.Words.{is, fieldBx, CLOSURE}
 use Rattle.roles.specs.Table.{Row, rowBytes, fieldAt, rowAt, rows, children, childAt, Proto, protoOf}
 use Rattle.roles.specs.Roles.{Role, Instruction, ClosureBinding, SetlistExtra, hasExtra, roleFields, roleBytes}
 use Rattle.roles.specs.Bindings.{Write, bindingOf, writes, firstBinding, bindingTotal, bindingBytes, bindingRecords}
-use Rattle.roles.specs.Refusals.{Refused}
+use Rattle.roles.specs.Refusals.{Refused, maxBindings, wordTotal}
 use Rattle.roles.specs.Calls.{Answer, refused, accepted}
 use Rattle.roles.specs.declared.refusals.Refusal.{Refusal}
 use Rattle.roles.specs.declared.refusals.Refusal.the-variants as refusal
@@ -153,13 +154,23 @@ boundClaim words pc base count None out = out
 boundClaim words pc base count (Bindings n first) out = boundFrom words (pc + 1) (base + first) count out
 boundClaim words pc base count Extra out = out
 
--- they do not bind more than the child's records, and these are in the buffer
+-- a buffer of so many bytes has room for all records of the table, or for none
+abbrev pub RoomForAllOrNone : List ℕ → ℕ → Type 0
+RoomForAllOrNone table room = (room < bindingBytes) ⊎ (bindingBytes * bindingTotal (rows table) ≤ room)
+
+-- a row's children can be bound in it: the records of the rows after it begin with `base`
+pub record BindsFrom (table : List ℕ) (row base room : ℕ) : Type 0 where
+  pub begins : base ≡ firstBinding (rows table) (suc row)
+  pub few : bindingTotal (rows table) ≤ maxBindings
+  pub fits : RoomForAllOrNone table room
+
+-- so many companions of an owner can
 unfoldable pub Bindable : ℕ → ℕ → ℕ → Companions → Type 0
 Bindable base count room None = Unit {0}
-Bindable base count room (Bindings n first) = (count ≤ n) × (bindingBytes * (base + first + n) ≤ room)
+Bindable base count room (Bindings n first) = (count ≤ n) × ((room < bindingBytes) ⊎ (bindingBytes * (base + first + n) ≤ room))
 Bindable base count room Extra = Unit {0}
 
--- once a write to a child's records was made
+-- the buffer once a write to a child's records was made
 unfoldable pub stored : List Row → Option Row → Write → List ℕ → List ℕ
 stored all none v out = out
 stored all (some c) v out = overwrite out (bindingBytes * (firstBinding all (c .row) + v .upvalue)) (bindingRecords (v .binding ∷ []))
@@ -167,3 +178,8 @@ stored all (some c) v out = overwrite out (bindingBytes * (firstBinding all (c .
 -- once the CLOSUREs of the prototype in a row have bound its children
 unfoldable pub boundIn : List ℕ → ℕ → List Write → List ℕ → List ℕ
 boundIn table row vs out = foldl (λ (out : List ℕ) (v : Write). stored (rows table) (childOfRow table row (v .child)) v out) out vs
+
+-- once those of the first n rows have
+unfoldable pub boundRows : List ℕ → List ℕ → ℕ → List ℕ → List ℕ
+boundRows table words n out =
+    foldl (λ (out : List ℕ) i. boundIn table i (writes (protoIn table i (drop (wordTotal (take i (rows table))) words))) out) out (upFrom 0 n)

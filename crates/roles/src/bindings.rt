@@ -1,21 +1,17 @@
 // Upvalue bindings, after the end of luad's `load_proto_51`. A record is three i32: instack, index and the pc of the word that binds.
 use crate::discovery::Companions;
-use crate::discovery::first_child;
-use crate::discovery::mark_owner;
 use crate::role::NONE;
 use opcodes::RawInstruction51;
 use opcodes::bytes::read_u32;
 use opcodes::bytes::write_record;
 ghost use mathlib.Core.Path.{_≡_};
-ghost use Prim.Native.Nat.{_+_, _*_, _/_, _<_, _≤_, suc};
+ghost use Prim.Native.Nat.{_+_, _*_, _/_, _%_, _<_, _≤_};
 ghost use mathlib.Core.List.{[], _∷_};
 ghost use lib.ListN.{length, replicate};
 ghost use Rattle.opcodes.specs.Bytes.{overwrite, u32Record, u32s};
-ghost use Rattle.roles.specs.Bindings.{bindingBytes, bindingRecords, bindingTotal, firstBinding, unbound, writes};
-ghost use Rattle.roles.specs.Contracts.{Bindable, boundBy, boundClaim, boundFrom, boundIn, protoIn};
-ghost use Rattle.roles.specs.Refusals.{maxBindings, maxRows, maxWordBytes};
-ghost use Rattle.roles.specs.Roles.{recordsOf, roles as protoRoles};
-ghost use Rattle.roles.specs.Table.{rowAt, rowBytes, rows};
+ghost use Rattle.roles.specs.Bindings.{bindingBytes, bindingRecords, unbound};
+ghost use Rattle.roles.specs.Contracts.{Bindable, boundBy, boundClaim, boundFrom};
+ghost use Rattle.roles.specs.Refusals.{maxBindings, maxWordBytes};
 
 // The length of a record in bytes.
 pub const BINDING_BYTES: usize = 12;
@@ -37,35 +33,9 @@ pub fn unbind(bindings: &mut [u8], count: usize)
     }
 }
 
-// Marks the roles of a row's words, and binds the upvalues of its children. The records of the rows after it begin with `base`.
-pub fn resolve_bindings(
-    protos: &[u8],
-    row: usize,
-    code: &[u8],
-    out: &mut [u8],
-    bindings: &mut [u8],
-    base: usize,
-)
-    requires { ⌜ (rowBytes * row + rowBytes ≤ length (now protos)) × (length (now protos) / rowBytes ≤ maxRows) ⌝ }
-    requires { ⌜ rowAt (now protos) row .words ≡ length (now code) / 4 ⌝ }
-    requires { ⌜ (length (now code) ≤ maxWordBytes) × (2 * length (now code) ≤ length (now out)) ⌝ }
-    requires { ⌜ (base ≡ firstBinding (rows (now protos)) (suc row)) × (bindingTotal (rows (now protos)) ≤ maxBindings) × (bindingBytes * bindingTotal (rows (now protos)) ≤ length (now bindings)) ⌝ }
-    ensures { λ _. ⌜ now (out .exit) ≡ overwrite (now (out .entry)) 0 (recordsOf (protoRoles (protoIn (now (protos .entry)) row (u32s (now (code .entry)))))) ⌝ }
-    ensures { λ _. ⌜ now (bindings .exit) ≡ boundIn (now (protos .entry)) row (writes (protoIn (now (protos .entry)) row (u32s (now (code .entry))))) (now (bindings .entry)) ⌝ }
-{
-    let mut cursor = first_child(protos, row);
-    let mut pc = 0;
-    while pc < code.len() / 4 {
-        let owner = mark_owner(protos, row, cursor, code, pc, out);
-        cursor = owner.cursor;
-        let companions = owner.companions;
-        bind_claim(bindings, base, code, pc, companions, owner.existing);
-        pc += 1 + owner.existing;
-    }
-}
-
-// The existing companions of the owner at pc bind the upvalues of a child, where it is a CLOSURE that has one.
-fn bind_claim(
+// The existing companions of the owner at pc bind the upvalues of a child, where it is a CLOSURE that has one. Nothing is written to a buffer
+// that has room for no record.
+pub fn bind_claim(
     bindings: &mut [u8],
     base: usize,
     code: &[u8],
@@ -79,14 +49,18 @@ fn bind_claim(
 {
     match companions {
         Companions::None => {}
-        Companions::Bindings(upvalues, first) => bind_child(
-            bindings,
-            base + first as usize,
-            upvalues as usize,
-            code,
-            pc,
-            existing,
-        ),
+        Companions::Bindings(upvalues, first) => {
+            if BINDING_BYTES <= bindings.len() {
+                bind_child(
+                    bindings,
+                    base + first as usize,
+                    upvalues as usize,
+                    code,
+                    pc,
+                    existing,
+                );
+            }
+        }
         Companions::Extra => {}
     }
 }
@@ -132,7 +106,7 @@ fn bind_word(records: &mut [u8], i: usize, pc: u32, word: u32)
     ensures { λ _. ⌜ now (records .exit) ≡ boundBy i pc word (now (records .entry)) ⌝ }
 {
     let w = RawInstruction51::decode(word);
-    let index = (w.b % 256) as u32;
+    let index = binding_index(w.b);
     if w.opcode_num == MOVE {
         write_binding(records, i, 1, index, pc);
         return;
@@ -140,6 +114,13 @@ fn bind_word(records: &mut [u8], i: usize, pc: u32, word: u32)
     if w.opcode_num == GETUPVAL {
         write_binding(records, i, 0, index, pc);
     }
+}
+
+// The index that a binding word gives, from its B.
+fn binding_index(b: u16) -> u32
+    ensures { λ r. ⌜ r ≡ b % 256 ⌝ }
+{
+    (b % 256) as u32
 }
 
 // Writes record i from the bits of its fields.

@@ -1,4 +1,5 @@
-// The roles of a prototype's words, front to back, after luad's `discover_roles_lua51`.
+// The roles of a prototype's words, front to back, after luad's `discover_roles_lua51`, and on the way the bindings of its children.
+use crate::bindings::bind_claim;
 use crate::role::Lua51PhysicalRole;
 use crate::role::write_role;
 use crate::search::Cursor;
@@ -11,15 +12,15 @@ use opcodes::bytes::read_u32;
 ghost use mathlib.Core.Bool.{cond};
 ghost use mathlib.Core.Path.{_≡_};
 ghost use lib.Dec.{eqb};
-ghost use Prim.Native.Nat.{_+_, _-_, _*_, _/_, _<_, _≤_};
-ghost use mathlib.Core.List.{_∷_};
+ghost use Prim.Native.Nat.{_+_, _*_, _/_, _<_, _≤_};
 ghost use lib.ListN.{length, take};
-ghost use Rattle.opcodes.specs.Bytes.{overwrite, u32At, u32s};
+ghost use Rattle.opcodes.specs.Bytes.{overwrite, u32s};
 ghost use Rattle.opcodes.specs.Lists.{tabulate};
-ghost use Rattle.roles.specs.Contracts.{Tracks, childBindings, claimedRoles, companionsOf, existingRoles, protoIn};
+ghost use Rattle.roles.specs.Bindings.{writes};
+ghost use Rattle.roles.specs.Contracts.{BindsFrom, Tracks, boundIn, childBindings, claimedRoles, companionsOf, protoIn};
 ghost use Rattle.roles.specs.declared.discovery.Companions.the-variants.{Extra, None};
 ghost use Rattle.roles.specs.Refusals.{maxRows, maxWordBytes};
-ghost use Rattle.roles.specs.Roles.{ClosureBinding, Instruction, recordsOf, roleBytes, roles};
+ghost use Rattle.roles.specs.Roles.{ClosureBinding, recordsOf, roleBytes, roles};
 ghost use Rattle.roles.specs.Table.{rowAt, rowBytes};
 
 // The opcodes that own words, by their numbers (docs/DECISIONS.md says why not by `Opcode51`).
@@ -41,32 +42,40 @@ pub struct Claim {
     pub companions: Companions,
 }
 
-// What an executable word owned, how many of these words exist, and the cursor after it.
-pub struct Owner {
-    pub cursor: Cursor,
-    pub companions: Companions,
-    pub existing: usize,
-}
-
-// Writes the roles of a row's words to the front of its part of the buffer. Each word is looked at once: an owner marks its companions, as
-// far as they exist, and the next word to be looked at is the one after them.
-pub fn discover_roles_lua51(protos: &[u8], row: usize, code: &[u8], out: &mut [u8])
+// Writes the roles of a row's words to the front of its part of the role buffer, and binds the upvalues of its children; the binding records
+// of the rows after it begin with `base`. Each word is looked at once: an owner marks its companions, as far as they exist, a CLOSURE lets
+// them bind, and the next word to be looked at is the one after them.
+pub fn discover_roles_lua51(
+    protos: &[u8],
+    row: usize,
+    code: &[u8],
+    out: &mut [u8],
+    bindings: &mut [u8],
+    base: usize,
+)
     requires { ⌜ (rowBytes * row + rowBytes ≤ length (now protos)) × (length (now protos) / rowBytes ≤ maxRows) ⌝ }
     requires { ⌜ rowAt (now protos) row .words ≡ length (now code) / 4 ⌝ }
     requires { ⌜ (length (now code) ≤ maxWordBytes) × (2 * length (now code) ≤ length (now out)) ⌝ }
+    requires { ⌜ BindsFrom (now protos) row base (length (now bindings)) ⌝ }
     ensures { λ _. ⌜ now (out .exit) ≡ overwrite (now (out .entry)) 0 (recordsOf (roles (protoIn (now (protos .entry)) row (u32s (now (code .entry)))))) ⌝ }
+    ensures { λ _. ⌜ now (bindings .exit) ≡ boundIn (now (protos .entry)) row (writes (protoIn (now (protos .entry)) row (u32s (now (code .entry))))) (now (bindings .entry)) ⌝ }
 {
+    let n = code.len() / 4;
     let mut cursor = first_child(protos, row);
     let mut pc = 0;
-    while pc < code.len() / 4 {
-        let owner = mark_owner(protos, row, cursor, code, pc, out);
-        cursor = owner.cursor;
-        pc += 1 + owner.existing;
+    while pc < n {
+        let claim = claim_of(protos, row, cursor, read_u32(code, 4 * pc));
+        cursor = claim.cursor;
+        write_role(out, pc, Lua51PhysicalRole::Instruction);
+        let companions = claim.companions;
+        let existing = mark(out, pc, n - pc - 1, companions);
+        bind_claim(bindings, base, code, pc, companions, existing);
+        pc += 1 + existing;
     }
 }
 
 // The cursor before the first child of a row.
-pub fn first_child(protos: &[u8], row: usize) -> Cursor
+fn first_child(protos: &[u8], row: usize) -> Cursor
     requires { ⌜ (rowBytes * row + rowBytes ≤ length (now protos)) × (length (now protos) / rowBytes ≤ maxRows) ⌝ }
     ensures { λ r. ⌜ Tracks (now (protos .entry)) row r ⌝ }
 {
@@ -75,35 +84,6 @@ pub fn first_child(protos: &[u8], row: usize) -> Cursor
         row: row + 1,
         first: 0,
         end: (protos.len() / ROW_BYTES) as u32,
-    }
-}
-
-// Marks the executable word at pc and its companions, as far as they exist.
-pub fn mark_owner(
-    protos: &[u8],
-    row: usize,
-    cursor: Cursor,
-    code: &[u8],
-    pc: usize,
-    out: &mut [u8],
-) -> Owner
-    requires { ⌜ (rowBytes * row + rowBytes ≤ length (now protos)) × (pc < length (now code) / 4) ⌝ }
-    requires { ⌜ Tracks (now protos) row cursor ⌝ }
-    requires { ⌜ (length (now code) ≤ maxWordBytes) × (2 * length (now code) ≤ length (now out)) ⌝ }
-    ensures { λ r. ⌜ (r .companions ≡ companionsOf (now (protos .entry)) row (u32At (now (code .entry)) (4 * pc))) × Tracks (now (protos .entry)) row (r .cursor) ⌝ }
-    ensures { λ r. ⌜ r .existing ≡ length (existingRoles (length (now (code .entry)) / 4) pc (r .companions)) ⌝ }
-    ensures { λ r. ⌜ now (out .exit) ≡ overwrite (now (out .entry)) (roleBytes * pc) (recordsOf (Instruction ∷ existingRoles (length (now (code .entry)) / 4) pc (r .companions))) ⌝ }
-    ensures { λ r. ⌜ r .existing < length (now (code .entry)) / 4 - pc ⌝ }
-{
-    let claim = claim_of(protos, row, cursor, read_u32(code, 4 * pc));
-    write_role(out, pc, Lua51PhysicalRole::Instruction);
-    let cursor = claim.cursor;
-    let companions = claim.companions;
-    let existing = mark(out, pc, code.len() / 4 - pc - 1, companions);
-    Owner {
-        cursor,
-        companions,
-        existing,
     }
 }
 

@@ -7,12 +7,14 @@ use Rattle.roles.proofs.bindings.bind_word.Tie as tie
 move : tie.Need-returns
 move c =
     let b = c .before .before .before .before in
-    bound-move _ _ _ _ (b .before .before .before .decode .ensures) _ _ (b .if1 .taken) (c .before .before .write-binding .ensures)
+    let x = b .before .before in
+    bound-move _ _ _ _ (x .before .decode .ensures) _ _ (x .binding-index .ensures) _ (b .if1 .taken) (c .before .before .write-binding .ensures)
 
 getupval : tie.Need-returns-2
 getupval c =
     let b = c .before .before .before .before .before .before in
-    bound-getupval _ _ _ _ (b .before .before .before .decode .ensures) _ _ (b .if1 .left) (c .before .before .before .before .if2 .taken) (c .before .before .write-binding2 .ensures)
+    let x = b .before .before in
+    bound-getupval _ _ _ _ (x .before .decode .ensures) _ _ (x .binding-index .ensures) _ (b .if1 .left) (c .before .before .before .before .if2 .taken) (c .before .before .write-binding2 .ensures)
 
 other : tie.Need-returns-3
 other c =
@@ -25,7 +27,7 @@ bind-word-spec =
     tie.close
     (tie.spec
     (λ c κs. search needs)
-    (λ c. search needs)
+    (λ c κs. search needs)
     (λ c κs. search needs)
     (λ c. search needs)
     move

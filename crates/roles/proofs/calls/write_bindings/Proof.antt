@@ -1,9 +1,9 @@
 -- `calls::write_bindings` meets its contract. Assumes nothing.
 use native.Mathlib.Omega.{arith}
+use mathlib.Core.Logic.{inr}
 use borrow.Author.Needs.{needs}
 use Rattle.roles.proofs.RolesCallLaws.{not-refused, few-rows}
-use Rattle.roles.proofs.BindingFillLaws.{few-records}
-use Rattle.roles.proofs.BindingsCallLaws.{refused-call, record-count, short-call, accepted-call}
+use Rattle.roles.proofs.BindingsCallLaws.{refused-call, call-kept, short-call, accepted-call}
 use Rattle.roles.proofs.calls.write_bindings.Statement.{statement}
 use Rattle.roles.proofs.calls.write_bindings.Tie as tie
 
@@ -19,45 +19,37 @@ roles-requires c κs = let b = c .before .before .before in not-refused _ _ _ _ 
 short-cast : tie.Need-cast-t15
 short-cast c =
     let f = c .before .before .before .before .before in
-    let b = f .before in
-    let a = b .before .before .before .before .before .before .before .args in
-    let ok = not-refused _ _ _ _ (b .before .before .check-roles .ensures) (b .enum-told .given .1) in
-    let n = record-count _ (a .words .now) _ (a .bindings .now) ok _ (f .field-total .ensures .0) in
-    omega (arith, n, few-records _ _ _ ok)
+    let k = call-kept _ _ _ _ (f .before .before .before .check-roles .ensures) (f .before .enum-told .given .1) _ (f .field-total .ensures .0) in
+    omega (arith, k .few)
 
 short : tie.Need-returns-2
 short c =
     let f = c .before .before .before .before .before in
-    let b = f .before in
-    let ok = not-refused _ _ _ _ (b .before .before .check-roles .ensures) (b .enum-told .given .1) in
-    let s = short-call _ _ _ _ ok _ (f .field-total .ensures .0) (c .before .before .before .before .if1 .taken) in
+    let k = call-kept _ _ _ _ (f .before .before .before .check-roles .ensures) (f .before .enum-told .given .1) _ (f .field-total .ensures .0) in
+    let s = short-call _ _ _ _ _ k (c .before .before .before .before .if1 .taken) in
     (s .0, (c .before .before .fill-roles .ensures, s .1))
 
-bindings-requires : tie.Need-fill-bindings-requires
-bindings-requires c κs =
-    let f = c .before .before .before in
-    let b = f .before in
-    let a = b .before .before .before .before .before .before .before .args in
-    let ok = not-refused _ _ _ _ (b .before .before .check-roles .ensures) (b .enum-told .given .1) in
-    (ok, (record-count _ (a .words .now) _ (a .bindings .now) ok _ (f .field-total .ensures .0), omega arith))
+rows-requires : tie.Need-fill-rows-requires
+rows-requires c κs =
+    let u = c .before .before .before .before in
+    let f = u .before .before .before in
+    let k = call-kept _ _ _ _ (f .before .before .before .check-roles .ensures) (f .before .enum-told .given .1) _ (f .field-total .ensures .0) in
+    (k .accepted, inr (omega (arith, k .count, u .before .before .if1 .left, u .unbind .kept .0)))
 
-cast : tie.Need-cast-t22
+cast : tie.Need-cast-t24
 cast c =
-    let f = c .before .before .before .before .before .before .before .before in
-    let b = f .before in
-    let a = b .before .before .before .before .before .before .before .args in
-    let ok = not-refused _ _ _ _ (b .before .before .check-roles .ensures) (b .enum-told .given .1) in
-    let n = record-count _ (a .words .now) _ (a .bindings .now) ok _ (f .field-total .ensures .0) in
-    omega (arith, n, few-records _ _ _ ok)
+    let f = c .before .before .before .before .before .before .before .before .before .before .before .before in
+    let k = call-kept _ _ _ _ (f .before .before .before .check-roles .ensures) (f .before .enum-told .given .1) _ (f .field-total .ensures .0) in
+    omega (arith, k .few)
 
 accepted : tie.Need-returns-3
 accepted c =
-    let f = c .before .before .before .before .before .before .before .before in
-    let b = f .before in
-    let ok = not-refused _ _ _ _ (b .before .before .check-roles .ensures) (b .enum-told .given .1) in
-    let e = c .before .before .before .before .fill-bindings .ensures in
-    let s = accepted-call _ _ _ _ ok _ (f .field-total .ensures .0) _ (c .before .before .before .before .before .before .before .if1 .left) (e .1) in
-    (s .0, (e .0, s .1))
+    let r = c .before .before .before .before in
+    let u = r .before .before .before .before .before in
+    let f = u .before .before .before in
+    let k = call-kept _ _ _ _ (f .before .before .before .check-roles .ensures) (f .before .enum-told .given .1) _ (f .field-total .ensures .0) in
+    let s = accepted-call _ _ _ _ _ k _ _ (u .before .before .if1 .left) (u .unbind .ensures) (r .fill-rows .ensures .1) in
+    (s .0, (r .fill-rows .ensures .0, s .1))
 
 pub write-bindings-spec : {M : Type 1} → statement M
 write-bindings-spec =
@@ -72,7 +64,8 @@ write-bindings-spec =
     short-cast
     (λ c. search needs)
     short
-    bindings-requires
+    (λ c κs. omega arith)
+    rows-requires
     cast
     (λ c. search needs)
     (λ c. search needs)

@@ -1,24 +1,61 @@
 -- `discovery::discover_roles_lua51` meets its contract. Assumes nothing.
-use Prim.Native.Nat.{_-_, _/_}
+use Prim.Native.Nat.{suc, _-_, _/_}
 use native.Mathlib.Omega.{arith}
-use mathlib.Core.Path.{refl}
+use mathlib.Core.Path.{_≡_, refl, _∙_, ap, subst⁻¹}
 use lib.ListN.{length}
-use Rattle.roles.proofs.RolePassLaws.{RolePass, pass-begins, pass-ends, pass-next}
+use Rattle.roles.specs.Table.{rows}
+use Rattle.roles.specs.Contracts.{companionsOf, BindsFrom}
+use Rattle.roles.proofs.TotalLaws.{records-front}
+use Rattle.roles.proofs.RoleRecordLaws.{owner-marked}
+use Rattle.roles.proofs.RolePassLaws.{RolePass, code-of, pass-begins, pass-ends, pass-next, owner-here}
+use Rattle.roles.proofs.BindingPassLaws.{BindPass, bind-begins, bind-ends, bind-next, bindable-here}
 use Rattle.roles.proofs.discovery.discover_roles_lua51.Statement.{statement}
 use Rattle.roles.proofs.discovery.discover_roles_lua51.Tie as tie
 
 abbrev Inv : tie.InvT-loop
-Inv protos row code out₀ cursor₀ pc₀ out cursor pc = RolePass protos row code out₀ out pc cursor
+Inv protos row code out₀ bindings₀ base n cursor₀ pc₀ out bindings cursor pc =
+    RolePass protos row code out₀ out pc cursor × BindPass protos row code bindings₀ bindings pc × (n ≡ length code / 4)
 
 abbrev μ : tie.MeasureT-loop
-μ protos row code out₀ cursor₀ pc₀ out cursor pc = length code / 4 - pc
+μ protos row code out₀ bindings₀ base n cursor₀ pc₀ out bindings cursor pc = n - pc
+
+bind-requires : tie.Need-bind-claim-requires Inv μ
+bind-requires c κs =
+    let m = c .before .before .before in
+    let q = m .before .before .before .before .before .before .before in
+    let l = q .before .before .before in
+    let a = l .before .before .before .before .before .before .args in
+    let pre = l .before .before .before .before .before .before .pre in
+    let owns = q .claim-of .ensures .0 ∙ ap (companionsOf (a .protos .now) (a .row)) (q .before .read-u32 .ensures) in
+    let marked = owner-marked _ _ _ _ (length (a .code .now) / 4) _ _ (omega arith) (omega (arith, pre .1 .1 .0 .1, l .loop .inv .0 .long)) (m .before .before .before .before .write-role .ensures) (m .mark .ensures) in
+    let o = owner-here _ _ _ (pre .1 .0) _ _ _ _ (l .loop .inv .0) (omega arith) (pre .1 .1 .0 .1) _ refl _ owns _ (marked .0) in
+    let from = subst⁻¹ (BindsFrom (a .protos .now) (a .row) (a .base)) (l .loop .inv .1 .long) (pre .1 .1 .1) in (
+      (omega (arith, marked .1 .1), pre .1 .1 .0 .0, omega (arith, from .begins, from .few, records-front (rows (a .protos .now)) (suc (a .row)))),
+      bindable-here _ _ _ (code-of _ _ _ (pre .1 .0)) _ _ from _ _ _ _ o owns (marked .0),
+    )
 
 loop-again : tie.Need-loop-again Inv μ
 loop-again c =
-    let m = c .before .before .before .before .mark-owner .ensures in
-    let l = c .before .before .before .before .before .before .before in
-    let pre = l .before .before .before .before .before .pre in
-    pass-next _ _ _ (pre .1 .0) _ _ _ _ (l .loop .inv) (omega arith) (omega (arith, pre .1 .1 .1)) _ refl _ (m .0 .0) _ _ _ (m .0 .1) (m .1 .0) (m .1 .1 .1) (m .1 .1 .0)
+    let m = c .before .before .before .before .before .before in
+    let q = m .before .before .before .before .before .before .before in
+    let l = q .before .before .before in
+    let a = l .before .before .before .before .before .before .args in
+    let pre = l .before .before .before .before .before .before .pre in
+    let owns = q .claim-of .ensures .0 ∙ ap (companionsOf (a .protos .now) (a .row)) (q .before .read-u32 .ensures) in
+    let marked = owner-marked _ _ _ _ (length (a .code .now) / 4) _ _ (omega arith) (omega (arith, pre .1 .1 .0 .1, l .loop .inv .0 .long)) (m .before .before .before .before .write-role .ensures) (m .mark .ensures) in
+    let o = owner-here _ _ _ (pre .1 .0) _ _ _ _ (l .loop .inv .0) (omega arith) (pre .1 .1 .0 .1) _ refl _ owns _ (marked .0) in (
+      pass-next _ _ _ (pre .1 .0) _ _ _ _ (l .loop .inv .0) (omega arith) (pre .1 .1 .0 .1) _ refl _ owns _ _ _ (q .claim-of .ensures .1) (marked .0) (marked .1 .1) (marked .1 .0),
+      bind-next _ _ _ (code-of _ _ _ (pre .1 .0)) _ _ (pre .1 .1 .1) _ _ _ _ o owns (marked .0) _ _ _ (l .loop .inv .1) (c .before .before .bind-claim .ensures),
+      l .loop .inv .2,
+    )
+
+returns : tie.Need-returns Inv μ
+returns c =
+    let l = c .before .loop in
+    let pre = c .before .before .before .before .before .before .before .pre in (
+      pass-ends _ _ _ (pre .1 .0) _ _ _ _ (l .inv .0) (omega arith),
+      bind-ends _ _ _ (code-of _ _ _ (pre .1 .0)) _ _ _ (l .inv .1) (omega (arith, l .inv .0 .within)),
+    )
 
 pub discover-roles-lua51-spec : {M : Type 1} → statement M
 discover-roles-lua51-spec =
@@ -26,15 +63,28 @@ discover-roles-lua51-spec =
     (tie.spec
     Inv
     μ
-    (λ c κs. c .before .before .before .pre .0)
-    (λ c. pass-begins _ _ _ (c .before .before .before .before .pre .1 .0) _ _ (c .first-child .ensures))
-    (λ c κs.
-    let l = c .before .before in
-    let pre = l .before .before .before .before .before .pre in
-    ((pre .0 .0, omega arith), (l .loop .inv .tracks, (pre .1 .1 .0, omega (arith, pre .1 .1 .1, l .loop .inv .long)))))
+    (λ c κs. c .before .before .before .before .pre .0)
+    (λ c. (pass-begins _ _ _ (c .before .before .before .before .before .pre .1 .0) _ _ (c .first-child .ensures), bind-begins _ _ _ _, refl))
     (λ c. omega arith)
-    (λ c. omega (arith, c .before .before .before .before .mark-owner .ensures .1 .1 .1))
-    (λ c. omega (arith, c .before .before .before .before .mark-owner .ensures .1 .1 .1))
+    (λ c κs. tt)
+    (λ c κs. let l = c .before .before in (l .before .before .before .before .before .before .pre .0 .0, l .loop .inv .0 .tracks))
+    (λ c κs. omega arith)
+    (λ c. omega arith)
+    (λ c. omega arith)
+    (λ c κs.
+    let pre = c .before .before .before .before .before .before .before .before .before .before .before .before .before .before .before .pre in
+    (omega (arith, pre .1 .1 .0 .0), omega (arith, pre .1 .1 .0 .1)))
+    bind-requires
+    (λ c.
+    let m = c .before .before .before .before .before .before in
+    let pre = m .before .before .before .before .before .before .before .before .before .before .before .before .before .before .before .before .pre in
+    omega (arith, m .mark .ensures .1 .1, pre .1 .1 .0 .0))
+    (λ c.
+    let m = c .before .before .before .before .before .before in
+    let pre = m .before .before .before .before .before .before .before .before .before .before .before .before .before .before .before .before .pre in
+    omega (arith, m .mark .ensures .1 .1, pre .1 .1 .0 .0))
+    (λ c. omega (arith, c .before .before .before .before .before .before .mark .ensures .1 .1))
     loop-again
-    (λ c. c .before .loop .inv .long)
-    (λ c. pass-ends _ _ _ (c .before .before .before .before .before .before .pre .1 .0) _ _ _ _ (c .before .loop .inv) (omega arith)))
+    (λ c. c .before .loop .inv .0 .long)
+    (λ c. c .before .loop .inv .1 .long)
+    returns)

@@ -1,4 +1,4 @@
-//! Links the archives that `rt staticlib` wrote. Without that of luad51 all is built but `bench roles`.
+//! Links the archives that `rt staticlib` wrote. Without that of luad51 all is built but `bench roles` and `bench bindings`.
 use std::path::Path;
 
 fn main() {

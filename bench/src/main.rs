@@ -1,22 +1,42 @@
 //! `bench` times reading and splitting words; `bench all [STEP]` compares the split of every word, or of every STEP-th,
-//! with luad's; `bench roles` times the roles call, and `bench roles compare` only compares it with luad's.
+//! with luad's; `bench roles` and `bench bindings` time a call of luad51, and with `compare` they only compare it with
+//! luad. The exit status is 1 where a call's answer is not luad's.
 #[cfg(luad51)]
-mod roles;
+mod luad51;
 mod timing;
 mod words;
 
-fn main() {
-    let arguments: Vec<String> = std::env::args().skip(1).collect();
-    match arguments.iter().map(String::as_str).collect::<Vec<_>>()[..] {
+use std::process::ExitCode;
+
+fn run(arguments: &[&str]) -> Result<(), String> {
+    match arguments {
         [] => words::time(),
         ["all"] => words::all(1),
         ["all", step] => words::all(step.parse().unwrap()),
         #[cfg(luad51)]
-        ["roles"] => roles::time(),
+        ["roles"] => luad51::roles::time()?,
         #[cfg(luad51)]
-        ["roles", "compare"] => roles::compare_all(),
+        ["roles", "compare"] => luad51::roles::compare()?,
+        #[cfg(luad51)]
+        ["bindings"] => luad51::bindings::time()?,
+        #[cfg(luad51)]
+        ["bindings", "compare"] => luad51::bindings::compare()?,
         #[cfg(not(luad51))]
-        ["roles", ..] => panic!("built without the archive of luad51: rt staticlib luad51, then build again"),
-        _ => panic!("bench, bench all [STEP], or bench roles [compare]"),
+        ["roles" | "bindings", ..] => {
+            panic!("built without the archive of luad51: rt staticlib luad51, then build again")
+        }
+        _ => panic!("bench, bench all [STEP], bench roles [compare], or bench bindings [compare]"),
+    }
+    Ok(())
+}
+
+fn main() -> ExitCode {
+    let arguments: Vec<String> = std::env::args().skip(1).collect();
+    match run(&arguments.iter().map(String::as_str).collect::<Vec<_>>()) {
+        Ok(()) => ExitCode::SUCCESS,
+        Err(difference) => {
+            eprintln!("{difference}");
+            ExitCode::FAILURE
+        }
     }
 }

@@ -1,8 +1,8 @@
-//! Times of two calls side by side.
+//! Times of calls side by side.
 use std::time::Instant;
 
 /// Seconds that a call takes.
-pub fn seconds(mut call: impl FnMut()) -> f64 {
+pub fn seconds(call: impl FnOnce()) -> f64 {
     let start = Instant::now();
     call();
     start.elapsed().as_secs_f64()
@@ -13,12 +13,20 @@ fn median(mut times: Vec<f64>) -> f64 {
     times[times.len() / 2]
 }
 
-/// The medians of two calls' times, turns about, so that both meet the same machine.
-pub fn turns_about(turns: usize, mut ours: impl FnMut(), mut theirs: impl FnMut()) -> (f64, f64) {
-    let (mut our_times, mut their_times) = (Vec::new(), Vec::new());
+/// The medians of the times that our calls and theirs take on the same state. Theirs has its turn after each of ours,
+/// so that all meet the same machine, and each of ours a cache that theirs has filled.
+pub fn turns_about<S, const N: usize>(
+    turns: usize,
+    state: &mut S,
+    ours: [fn(&mut S); N],
+    theirs: fn(&mut S),
+) -> ([f64; N], f64) {
+    let (mut our_times, mut their_times) = ([(); N].map(|()| Vec::new()), Vec::new());
     for _ in 0..turns {
-        our_times.push(seconds(&mut ours));
-        their_times.push(seconds(&mut theirs));
+        for (call, times) in ours.iter().zip(&mut our_times) {
+            times.push(seconds(|| call(state)));
+            their_times.push(seconds(|| theirs(state)));
+        }
     }
-    (median(our_times), median(their_times))
+    (our_times.map(median), median(their_times))
 }

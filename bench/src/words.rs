@@ -57,9 +57,10 @@ fn run(digest: fn(&[u8]) -> u64, words: &[u8]) {
 pub fn time() {
     let count = 1 << 20;
     for (name, known) in [("any words", false), ("known opcodes", true)] {
-        let words = words(count, known);
+        let mut words = words(count, known);
         assert_eq!(proved(&words), published(&words));
-        let (ours, theirs) = turns_about(201, || run(proved, &words), || run(published, &words));
+        let ([ours], theirs) =
+            turns_about(201, &mut words, [|words| run(proved, words)], |words| run(published, words));
         println!(
             "{count} {name}: proved {:.3} ms, luad {:.3} ms, ratio {:.2}",
             ours * 1e3,

@@ -1,6 +1,6 @@
 //! luad's own answer for an image: encoded as a binary chunk, decoded and validated by the published files.
 use crate::chunk;
-use crate::image::{rows, Image};
+use crate::image::{rows, Image, ROW_LEN};
 use crate::message::{code_number, value};
 use luad::chunk::decode_chunk_lua51_with_profile;
 use luad::diagnostic::{Diagnostic, DiagnosticCategory, Verdict};
@@ -60,8 +60,11 @@ fn record_incoming(reader: &mut SafeReader, warnings: u32, errors: u32) -> usize
     reader.diagnostics().len()
 }
 
-/// The decoded prototypes in preorder, each with its parent.
-fn preorder(main: &Prototype) -> Vec<(&Prototype, Option<&Prototype>)> {
+/// A decoded prototype and its parent.
+pub type Placed<'a> = (&'a Prototype, Option<&'a Prototype>);
+
+/// The decoded prototypes in preorder.
+pub fn preorder(main: &Prototype) -> Vec<Placed<'_>> {
     let mut found = Vec::new();
     let mut open = vec![(main, None)];
     while let Some((proto, parent)) = open.pop() {
@@ -80,6 +83,11 @@ fn role(role: Lua51PhysicalRole) -> [i32; 2] {
     }
 }
 
+/// The two numbers of the role of each word.
+pub fn roles(protos: &[Placed]) -> Vec<[i32; 2]> {
+    protos.iter().flat_map(|(proto, _)| discover_roles_lua51(proto).roles).map(role).collect()
+}
+
 /// The pc of the word that bound an upvalue. luad keeps this word's source location: it is that of a word of the
 /// parent, or, where nothing was bound, still that of the upvalue's own prototype.
 fn descriptor_pc(upvalue: &UpvalueDesc, proto: &Prototype, parent: Option<&Prototype>) -> i32 {
@@ -92,11 +100,16 @@ fn descriptor_pc(upvalue: &UpvalueDesc, proto: &Prototype, parent: Option<&Proto
 }
 
 /// The three numbers of each binding of a prototype.
-fn bindings<'a>(proto: &'a Prototype, parent: Option<&'a Prototype>) -> impl Iterator<Item = [i32; 3]> + 'a {
+fn bindings_of<'a>((proto, parent): Placed<'a>) -> impl Iterator<Item = [i32; 3]> + 'a {
     let binding = move |upvalue: &UpvalueDesc| {
         [i32::from(upvalue.instack), i32::from(upvalue.idx), descriptor_pc(upvalue, proto, parent)]
     };
     proto.upvalues.iter().map(binding)
+}
+
+/// The three numbers of the binding of each upvalue.
+pub fn bindings(protos: &[Placed]) -> Vec<[i32; 3]> {
+    protos.iter().flat_map(|placed| bindings_of(*placed)).collect()
 }
 
 /// The value of code 1, which luad's message does not carry: what luad's role map declares for the CLOSURE.
@@ -109,11 +122,7 @@ fn declared_upvalues(proto: &Prototype, pc: i32) -> i32 {
 }
 
 /// The four numbers of a diagnostic.
-fn record(
-    diagnostic: &Diagnostic,
-    protos: &[(&Prototype, Option<&Prototype>)],
-    row_of: &HashMap<ProtoPath, usize>,
-) -> [i32; 4] {
+fn record(diagnostic: &Diagnostic, protos: &[Placed], row_of: &HashMap<ProtoPath, usize>) -> [i32; 4] {
     let (path, pc) = match &diagnostic.target {
         StableId::Proto(path) => (path, -1),
         StableId::Instruction(path, pc) => (path, *pc as i32),
@@ -138,19 +147,23 @@ fn added(chunk: &Chunk, incoming: usize) -> &[Diagnostic] {
     }
 }
 
-/// luad's answer for an image that has none of the refusals 1 to 6.
-pub fn judge(image: &Image) -> Answer {
-    let table = rows(&image.protos);
-    let bytes = chunk::encode(&table, &image.words);
+/// The chunk that luad makes of an image that has none of the refusals 1 to 6, and the number of its incoming
+/// diagnostics.
+pub fn decode(image: &Image) -> (Chunk, usize) {
+    let bytes = chunk::encode(&rows(&image.protos), &image.words);
     let mut reader = SafeReader::with_options(&bytes, 0, limits(), ParseMode::Strict);
     let incoming = record_incoming(&mut reader, image.warnings, image.errors);
     let chunk = decode_chunk_lua51_with_profile(&mut reader, Lua51Profile::Stock).expect("a chunk that decodes");
+    (chunk, incoming)
+}
+
+/// luad's answer for an image that has none of the refusals 1 to 6.
+pub fn judge(image: &Image) -> Answer {
+    let (chunk, incoming) = decode(image);
     let protos = preorder(&chunk.main_proto);
-    assert_eq!(protos.len(), table.len(), "a prototype for each row");
+    assert_eq!(protos.len(), image.protos.len() / ROW_LEN, "a prototype for each row");
     let row_of: HashMap<ProtoPath, usize> =
         protos.iter().enumerate().map(|(row, (proto, _))| (proto.path.clone(), row)).collect();
-    let roles = protos.iter().flat_map(|(proto, _)| discover_roles_lua51(proto).roles).map(role).collect();
-    let bindings = protos.iter().flat_map(|(proto, parent)| bindings(proto, *parent)).collect();
     let diagnostics = added(&chunk, incoming).iter().map(|diagnostic| record(diagnostic, &protos, &row_of)).collect();
-    Answer { verdict: chunk.verdict, roles, bindings, diagnostics }
+    Answer { verdict: chunk.verdict, roles: roles(&protos), bindings: bindings(&protos), diagnostics }
 }

@@ -14,8 +14,11 @@ const DEEPEST: usize = 6;
 /// Registers that words name.
 const STACK: u32 = 64;
 
-/// The images by their names.
-pub const IMAGES: [(&str, fn() -> Image); 11] = [
+/// What makes an image, by its name.
+type Named<F> = (&'static str, F);
+
+/// The images that all are compared and timed on.
+pub const IMAGES: [Named<fn() -> Image>; 11] = [
     ("real-like", || real_like(WORDS)),
     ("same last child", || same_last_child(WORDS, 0)),
     ("same last child, 2 upvalues", || same_last_child(WORDS, 2)),
@@ -30,7 +33,7 @@ pub const IMAGES: [(&str, fn() -> Image); 11] = [
 ];
 
 /// The images of any number of words whose times show how they grow.
-pub const GROWTH: [(&str, fn(usize) -> Image); 4] = [
+pub const GROWTH: [Named<fn(usize) -> Image>; 4] = [
     ("growth: real-like", real_like),
     ("growth: same last child", |words| same_last_child(words, 0)),
     ("growth: the same, 2 upvalues", |words| same_last_child(words, 2)),

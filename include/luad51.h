@@ -17,9 +17,9 @@
  * the same time, each with buffers of its own.
  * A call takes at most LUAD51_STACK_BYTES of stack. Only the search for a child of a CLOSURE takes much: it goes one
  * call deeper for each row that it passes, 48 bytes each as compiled for x86-64.
- * The time is linear in words, rows and records where the CLOSUREs of a prototype name its children in rising order, as
- * compilers write them, or name the same one again. A smaller number starts the search at the prototype's first row
- * again, so an image made to do so can take time in proportion to words times rows.
+ * The time is linear in words and records, and in rows times the depth of nesting, where the CLOSUREs of a prototype name
+ * its children in rising order, as compilers write them, or name the same one again. A smaller number starts the search
+ * at the prototype's first row again, so an image made to do so can take time in proportion to words times rows.
  *
  * The result of both calls is figure + 2^32 * refusal; bits 40 to 63 are 0.
  *   accepted  refusal LUAD51_ACCEPTED; the figure is the number of role records, one for each word, or, of
@@ -27,7 +27,8 @@
  *   refused   refusal 1 to 7, of luad51_bindings 1 to 8; the figure is the first guilty row for LUAD51_BAD_DEPTH and
  *             LUAD51_FIELD_OVER_LIMIT, the number of binding records for LUAD51_BUFFER_TOO_SHORT, otherwise 0
  * An accepted call writes its records to the front of its buffers and leaves what lies past them unchanged. A refused
- * call leaves its buffers untouched, except that with LUAD51_BUFFER_TOO_SHORT the role records are written.
+ * call leaves its buffers untouched, except that with LUAD51_BUFFER_TOO_SHORT the role records are written, as by an
+ * accepted call. So a call with an empty bindings buffer tells how many records there are.
  */
 #ifndef LUAD51_H
 #define LUAD51_H
@@ -43,6 +44,7 @@ extern "C" {
 #define LUAD51_MAX_ROWS 16384
 #define LUAD51_MAX_WORDS 1048576
 #define LUAD51_MAX_DEPTH 199
+#define LUAD51_MAX_BINDINGS 4177920 /* LUAD51_MAX_ROWS rows of 255 upvalues */
 
 /* Sizes in bytes. */
 #define LUAD51_ROW_BYTES 20
@@ -68,10 +70,11 @@ enum luad51_refusal_number {
 
 /* Writes the role of every word, in the order of the words. A record is two i32, LUAD51_ROLE_BYTES together:
  *   -1     -1     an instruction
- *   owner  index  the binding of upvalue `index` that follows the CLOSURE at pc `owner` of the same prototype
+ *   owner  index  the binding word of upvalue `index` that follows the CLOSURE at pc `owner` of the same prototype
  *   owner  -1     the extra word that follows the SETLIST at pc `owner` of the same prototype
- * A CLOSURE whose child Bx exists has a binding for each upvalue of that child, a SETLIST with C = 0 one extra word, as
- * far as the prototype has words; other words have none. Bindings and extra words are never read as CLOSURE or SETLIST.
+ * A CLOSURE whose child Bx exists has a binding word for each upvalue of that child, a SETLIST with C = 0 one extra
+ * word, as far as the prototype has words; other words have none. Binding words and extra words are never read as
+ * CLOSURE or SETLIST.
  */
 uint64_t luad51_roles(const uint8_t *protos, size_t protos_len, const uint8_t *words, size_t words_len,
                       uint8_t *roles, size_t roles_len);
@@ -82,8 +85,9 @@ uint64_t luad51_roles(const uint8_t *protos, size_t protos_len, const uint8_t *w
  *   0  index  pc  upvalue `index` of the parent, bound by the GETUPVAL at `pc` of the parent
  *   0  0      -1  bound by nothing
  * The index is the word's B modulo 256; whether the parent has it is not checked. Only CLOSUREs that are instructions
- * count, in the order of their pcs: each sets record j of its child by its binding of upvalue j, as far as the parent
- * has words. A word of another opcode leaves the record as it is; a later CLOSURE of the same child overwrites it.
+ * count, in the order of their pcs: each sets record j of its child by its binding word of upvalue j, as far as the
+ * parent has words. A binding word of another opcode leaves the record as it is; a later CLOSURE of the same child
+ * overwrites it. Row 0 is nobody's child: nothing binds its upvalues.
  */
 uint64_t luad51_bindings(const uint8_t *protos, size_t protos_len, const uint8_t *words, size_t words_len,
                          uint8_t *roles, size_t roles_len, uint8_t *bindings, size_t bindings_len);

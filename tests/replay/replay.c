@@ -238,7 +238,7 @@ static struct outcome outcome_for(const struct fit *fit, size_t count)
     return outcome;
 }
 
-/* A call with such buffers, if they have the byte that they lack. */
+/* A call with such buffers. There is none where a buffer that lacks a byte would have none to lack. */
 static void replay_fit(const struct image *image, enum call call, const struct fit *fit, struct tally *tally)
 {
     size_t roles_len = image->answers[ROLES].records.len;

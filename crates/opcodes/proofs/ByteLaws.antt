@@ -5,7 +5,7 @@ use native.Mathlib.Numerals.{add-one}
 use native.Mathlib.Omega.{arith}
 use mathlib.Core.Path.{_≡_, refl, sym, ap, ap₂, _∙_}
 use mathlib.Core.Bool.{Bool, true, false, cond, not}
-use mathlib.Core.List.{List, [], _∷_, _++_, append-assoc, append-nil, flatMap, map}
+use mathlib.Core.List.{List, [], _∷_, _++_, append-assoc, append-nil, flatMap, map, map-append}
 use borrow.Author.Tests.{le-leb, lt-leb, leb-true, leb-false, not-true, not-false}
 use lib.Dec.{leb}
 use lib.ListN.{length, getD, take, drop, drop-of-length-le, length-append, length-map, length-take, length-drop, take-append-drop}
@@ -106,9 +106,17 @@ module _ (old : List ℕ) (at : ℕ) (new more : List ℕ) (fits : at + length n
 
 -- ---- a record, value by value
 
-pub u32Record-append : (ms ns : List ℕ) → u32Record (ms ++ ns) ≡ u32Record ms ++ u32Record ns
+u32Record-append : (ms ns : List ℕ) → u32Record (ms ++ ns) ≡ u32Record ms ++ u32Record ns
 unfolding u32Record
 u32Record-append ms ns = flatMap-append u32Bytes ms ns
+
+-- the fields of values, one value after the other
+pub i32Record-append : {A : Type 0} (f : A → List ℤ) (xs ys : List A) → i32Record (flatMap f (xs ++ ys)) ≡ i32Record (flatMap f xs) ++ i32Record (flatMap f ys)
+unfolding i32Record
+i32Record-append f xs ys =
+    ap (λ l. u32Record (map i32Bits l)) (flatMap-append f xs ys)
+    ∙ ap u32Record (map-append i32Bits (flatMap f xs) (flatMap f ys))
+    ∙ u32Record-append (map i32Bits (flatMap f xs)) (map i32Bits (flatMap f ys))
 
 u32Record-snoc : (ns : List ℕ) (n : ℕ) → u32Record (ns ++ (n ∷ [])) ≡ u32Record ns ++ u32Bytes n
 unfolding u32Record flatMap

@@ -5,7 +5,7 @@ use native.Mathlib.Numerals.{add-one}
 use native.Mathlib.Omega.{arith}
 use mathlib.Core.Path.{_≡_, refl, sym, _∙_, ap}
 use mathlib.Core.Bool.{Bool, true, false}
-use mathlib.Core.List.{List, [], _∷_, _++_, map, flatMap, foldl, append-assoc}
+use mathlib.Core.List.{List, [], _∷_, _++_, map, flatMap, foldl, foldl-append, append-assoc}
 use lib.ListN.{length, getD, take, length-append, length-map, List·getD-append}
 use lib.Seq.{getD-append-add}
 use Rattle.opcodes.specs.Lists.{upFrom, tabulate, select, keepIf, takeWhile, goOnIf}
@@ -103,18 +103,10 @@ upFrom-append i zero b = rw (zero-add, add-zero)
 upFrom-append i (suc a) b = ap (upFrom i) (suc-add a b) ∙ ap (λ (l : List ℕ). i ∷ l) (upFrom-append (suc i) a b ∙ rw (suc-add, add-suc))
 
 module _ {A B : Type 0} (f : B → A → B) where
-  pub foldl-append : (z : B) (xs ys : List A) → foldl f z (xs ++ ys) ≡ foldl f (foldl f z xs) ys
-  foldl-append z [] ys = refl
-  foldl-append z (x ∷ xs) ys = foldl-append (f z x) xs ys
-
-  pub foldl-map : {C : Type 0} (g : C → A) (z : B) (xs : List C) → foldl f z (map g xs) ≡ foldl (λ (z : B) (x : C). f z (g x)) z xs
-  foldl-map g z [] = refl
-  foldl-map g z (x ∷ xs) = foldl-map g (f z (g x)) xs
-
   pub foldl-flatMap : {C : Type 0} (g : C → List A) (z : B) (xs : List C) → foldl f z (flatMap g xs) ≡ foldl (λ (z : B) (x : C). foldl f z (g x)) z xs
   unfolding flatMap
   foldl-flatMap g z [] = refl
-  foldl-flatMap g z (x ∷ xs) = foldl-append z (g x) (flatMap g xs) ∙ foldl-flatMap g (foldl f z (g x)) xs
+  foldl-flatMap g z (x ∷ xs) = foldl-append f z (g x) (flatMap g xs) ∙ foldl-flatMap g (foldl f z (g x)) xs
 
   pub foldl-same : (g : B → A → B) → ((z : B) (x : A) → f z x ≡ g z x) → (z : B) (xs : List A) → foldl f z xs ≡ foldl g z xs
   foldl-same g e z [] = refl

@@ -1,21 +1,21 @@
 -- The bindings of all prototypes, one after the other: what was bound, and what is left, after each row. Assumes nothing.
 use Prim.Native.Nat.{ℕ, zero, suc, _+_, _*_, _/_, _≤_, _<_}
-use native.Mathlib.Nat.{add-zero}
 use native.Mathlib.Numerals.{add-one}
 use native.Mathlib.Omega.{arith}
 use mathlib.Core.Path.{_≡_, refl, sym, _∙_, ap, ap₂, subst⁻¹}
-use mathlib.Core.List.{List, [], _∷_, _++_, foldl, flatMap, append-assoc}
+use mathlib.Core.List.{List, [], _∷_, _++_, foldl, append-assoc}
 use mathlib.Core.Option.{Option, none, some}
 use lib.ListN.{length, getD, take, drop, set, replicate, take-append-drop, length-set, length-replicate}
-use lib.Seq.{take-all, set-split, take-suc, drop-drop, drop-cons, length-take-le}
+use lib.Seq.{set-split, drop-drop, drop-cons, length-take-le}
 use Rattle.opcodes.specs.Lists.{All, all-nil, all-cons, upFrom}
 use Rattle.opcodes.specs.Bytes.{overwrite}
 use Rattle.opcodes.specs.Words.{is, fieldBx, CLOSURE}
-use Rattle.roles.specs.Table.{Row, rowBytes, fieldAt, rowAt, rows, Proto, protoOf, childAt}
+use Rattle.roles.specs.Table.{Row, rowBytes, fieldAt, rowAt, rows, Proto, protoOf}
 use Rattle.roles.specs.Roles.{wordAt, executableAt, bindingCount, existing, bindingWords}
 use Rattle.roles.specs.Bindings.{Binding, unbound, Write, bindingOf, writeOf, writesAt, writes, firstBinding, bindingTotal, setBinding, bindRows, bindings, bindingBytes, bindingRecords}
-use Rattle.roles.specs.Refusals.{rolesRefusal, maxBindings, wordTotal}
-use Rattle.roles.specs.Contracts.{childOfRow, protoIn, RoomForAllOrNone, BindsFrom, stored, boundIn, boundRows}
+use Rattle.roles.specs.Refusals.{rolesRefusal, wordTotal}
+use Rattle.roles.specs.Contracts.{childOfRow, protoIn}
+use Rattle.roles.specs.BindingSteps.{maxBindings, RoomForAllOrNone, BindsFrom, stored, boundIn, boundRow, boundRows}
 use Rattle.opcodes.proofs.ListLaws.{foldl-next}
 use Rattle.opcodes.proofs.AllLaws.{all-flatMap, all-map, all-of, all-imp, all-upTo}
 use Rattle.opcodes.proofs.TestLaws.{by-cond}
@@ -24,13 +24,13 @@ use Rattle.opcodes.proofs.PartLaws.{paste-part}
 use Rattle.roles.proofs.TableLaws.{length-rows, getD-rows, drop-rows}
 use Rattle.roles.proofs.TotalLaws.{words-next, records-next, records-most}
 use Rattle.roles.proofs.RowCheckLaws.{rows-end}
-use Rattle.roles.proofs.RefusalLaws.{ImageKept, roles-kept}
+use Rattle.roles.proofs.RefusalLaws.{roles-kept}
 use Rattle.roles.proofs.BindingRecordLaws.{length-bindings, bindings-append}
 use Rattle.roles.proofs.BindingPassLaws.{child-records, length-boundIn}
 
 -- ---- one record among others
 
-pub record-set : (old : List ℕ) (bs : List Binding) (i : ℕ) (b : Binding) → i < length bs → bindingBytes * length bs ≤ length old
+record-set : (old : List ℕ) (bs : List Binding) (i : ℕ) (b : Binding) → i < length bs → bindingBytes * length bs ≤ length old
     → overwrite (overwrite old 0 (bindingRecords bs)) (bindingBytes * i) (bindingRecords (b ∷ [])) ≡ overwrite old 0 (bindingRecords (set bs i b))
 record-set old bs i b h room =
     let before = take i bs in
@@ -57,6 +57,17 @@ record-set old bs i b h room =
     ∙ append-assoc (bindingRecords before) (new ++ bindingRecords after) rest
     ∙ ap (λ (l : List ℕ). bindingRecords before ++ l) (append-assoc new (bindingRecords after) rest))
 
+-- ---- a write changes no length
+
+length-setBinding : (all : List Row) (o : Option Row) (v : Write) (bs : List Binding) → length (setBinding all o v bs) ≡ length bs
+unfolding setBinding
+length-setBinding all none v bs = refl
+length-setBinding all (some c) v bs = length-set bs _ (v .binding)
+
+pub length-writes : (all : List Row) (f : Write → Option Row) (vs : List Write) (bs : List Binding) → length (foldl (λ (bs : List Binding) (v : Write). setBinding all (f v) v bs) bs vs) ≡ length bs
+length-writes all f [] bs = refl
+length-writes all f (v ∷ vs) bs = length-writes all f vs (setBinding all (f v) v bs) ∙ length-setBinding all (f v) v bs
+
 -- ---- the writes of a prototype are to the records of its children
 
 abbrev Inside : Proto → Write → Type 0
@@ -70,7 +81,7 @@ binding-words-most p pc =
     let owned : bindingCount p w ≤ n = by-cond (λ (k : ℕ). k ≤ n) (is w (CLOSURE ∷ [])) n 0 (λ _. omega arith) (λ _. omega arith) in
     by-cond (λ (k : ℕ). k ≤ n) (executableAt p pc) (existing p pc (bindingCount p w)) 0 (λ _. omega arith) (λ _. omega arith)
 
-pub writes-inside : (p : Proto) → All (Inside p) (writes p)
+writes-inside : (p : Proto) → All (Inside p) (writes p)
 unfolding writes writesAt writeOf
 writes-inside p =
     all-flatMap (Inside p) (writesAt p)
@@ -90,28 +101,23 @@ module _ (table : List ℕ) (row : ℕ) (ws old : List ℕ) (room : bindingBytes
   p = protoIn table row ws
 
   one-stored : (bs : List Binding) (v : Write) → length bs ≡ bindingTotal (rows table) → Inside p v
-      → (stored (rows table) (childOfRow table row (v .child)) v (overwrite old 0 (bindingRecords bs)) ≡ overwrite old 0 (bindingRecords (setIn table row bs v)))
-      × (length (setIn table row bs v) ≡ bindingTotal (rows table))
+      → stored (rows table) (childOfRow table row (v .child)) v (overwrite old 0 (bindingRecords bs)) ≡ overwrite old 0 (bindingRecords (setIn table row bs v))
   unfolding stored setBinding protoIn protoOf
   one-stored bs v size h = go (childOfRow table row (v .child)) refl
     where
-      go : (o : Option Row) → childOfRow table row (v .child) ≡ o
-          → (stored (rows table) o v (overwrite old 0 (bindingRecords bs)) ≡ overwrite old 0 (bindingRecords (setBinding (rows table) o v bs))) × (length (setBinding (rows table) o v bs) ≡ bindingTotal (rows table))
-      go none e = (refl, size)
+      go : (o : Option Row) → childOfRow table row (v .child) ≡ o → stored (rows table) o v (overwrite old 0 (bindingRecords bs)) ≡ overwrite old 0 (bindingRecords (setBinding (rows table) o v bs))
+      go none e = refl
       go (some c) e =
           let r = child-records table row (v .child) c e in
-          let i = firstBinding (rows table) (c .row) + v .upvalue in
-          (record-set old bs i (v .binding) (omega (arith, r .inside, r .upvalues)) (omega arith), length-set bs i (v .binding) ∙ size)
+          record-set old bs (firstBinding (rows table) (c .row) + v .upvalue) (v .binding) (omega (arith, r .inside, r .upvalues)) (omega arith)
 
-  pub all-stored : (bs : List Binding) (vs : List Write) → length bs ≡ bindingTotal (rows table) → All (Inside p) vs
-      → (boundIn table row vs (overwrite old 0 (bindingRecords bs)) ≡ overwrite old 0 (bindingRecords (foldl (setIn table row) bs vs)))
-      × (length (foldl (setIn table row) bs vs) ≡ bindingTotal (rows table))
+  all-stored : (bs : List Binding) (vs : List Write) → length bs ≡ bindingTotal (rows table) → All (Inside p) vs
+      → boundIn table row vs (overwrite old 0 (bindingRecords bs)) ≡ overwrite old 0 (bindingRecords (foldl (setIn table row) bs vs))
   unfolding boundIn
-  all-stored bs [] size all-nil = (refl, size)
+  all-stored bs [] size all-nil = refl
   all-stored bs (v ∷ vs) size (all-cons h hs) =
-      let one = one-stored bs v size h in
-      let more = all-stored (setIn table row bs v) vs (one .1) hs in
-      (ap (boundIn table row vs) (one .0) ∙ more .0, more .1)
+      ap (boundIn table row vs) (one-stored bs v size h)
+      ∙ all-stored (setIn table row bs v) vs (length-setBinding (rows table) (childOfRow table row (v .child)) v bs ∙ size) hs
 
 -- ---- row by row, in the list of bindings
 
@@ -135,13 +141,12 @@ module _ (table words old first : List ℕ) (room : bindingBytes * bindingTotal 
   bind-next out row v there =
       let ws = wordsOf table words row in
       let vs = writes (protoIn table row ws) in
-      let more = all-stored table row ws old room (v .made) vs (v .size) (writes-inside (protoIn table row ws)) in
       let n = words-next (rows table) row (rowAt table row) (omega (arith, length-rows table)) ∙ ap (λ (r : Row). wordTotal (take row (rows table)) + r .words) (getD-rows table row (rowAt table row) there) in
       let words-left : wordsOf table words (suc row) ≡ drop (rowAt table row .words) ws = ap (λ (k : ℕ). drop k words) n ∙ sym (drop-drop (rowAt table row .words) (wordTotal (take row (rows table))) words) in
       record {
         made = foldl (setIn table row) (v .made) vs;
-        size = more .1;
-        written = ap (boundIn table row vs) (v .written) ∙ more .0;
+        size = length-writes (rows table) (λ w. childOfRow table row (w .child)) vs (v .made) ∙ v .size;
+        written = ap (boundIn table row vs) (v .written) ∙ all-stored table row ws old room (v .made) vs (v .size) (writes-inside (protoIn table row ws));
         left =
             ap (λ (l : List ℕ). bindRows (rows table) (drop (suc row) (rows table)) l (foldl (setIn table row) (v .made) vs)) words-left
             ∙ sym (ap (λ (rs : List Row). bindRows (rows table) rs ws (v .made)) (drop-rows table row there))
@@ -152,7 +157,7 @@ module _ (table words old first : List ℕ) (room : bindingBytes * bindingTotal 
   unfolding boundRows
   bind-rows zero h = bind-begins
   bind-rows (suc n) h =
-      subst⁻¹ (λ (l : List ℕ). BindFill table words old l (suc n)) (foldl-next (λ (out : List ℕ) i. boundIn table i (writes (protoIn table i (wordsOf table words i))) out) first n)
+      subst⁻¹ (λ (l : List ℕ). BindFill table words old l (suc n)) (foldl-next (boundRow table words) first n)
       (bind-next (boundRows table words n first) n (bind-rows n (omega arith)) h)
 
   -- all of them: what the definitions say
@@ -200,11 +205,10 @@ module _ (table words old : List ℕ) where
       pub rows-next : (new : List ℕ) (first : ℕ) → first ≡ wordTotal (take row (rows table)) → new ≡ boundIn table row (writes (protoIn table row (drop first words))) out → RowsBound table words old new (row + 1) (base + u)
       unfolding boundRows
       rows-next new first place e =
-          let step : List ℕ → ℕ → List ℕ = λ l i. boundIn table i (writes (protoIn table i (wordsOf table words i))) l in
           let done : new ≡ boundRows table words (row + 1) old =
           e
           ∙ ap₂ (λ (n : ℕ) (l : List ℕ). boundIn table row (writes (protoIn table row (drop n words))) l) place (v .bound)
-          ∙ sym (ap (λ (n : ℕ). boundRows table words n old) (add-one row) ∙ foldl-next step old row) in
+          ∙ sym (ap (λ (n : ℕ). boundRows table words n old) (add-one row) ∙ foldl-next (boundRow table words) old row) in
           record {
             bound = done;
             long = ap length e ∙ length-boundIn table row _ out ∙ v .long;

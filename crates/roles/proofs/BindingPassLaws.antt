@@ -1,35 +1,33 @@
 -- The bindings that a pass over a prototype's words makes: what is bound after each executable word and its companions. Assumes nothing.
-use Prim.Native.Nat.{ℕ, zero, suc, _+_, _-_, _*_, _/_, _%_, _^_, _≤_, _<_, min}
+use Prim.Native.Nat.{ℕ, suc, _+_, _-_, _*_, _/_, _≤_, _<_, min}
 use native.Mathlib.Nat.{zero-add}
-use native.Mathlib.Numerals.{add-one}
 use native.Mathlib.Omega.{arith}
 use mathlib.Core.Path.{_≡_, refl, sym, _∙_, ap, ap₂, subst}
 use mathlib.Core.Logic.{_⊎_, inl, inr}
 use mathlib.Core.Bool.{Bool, true, false}
-use mathlib.Core.List.{List, [], _∷_, _++_, map, flatMap, foldl, append-nil}
+use mathlib.Core.List.{List, [], _∷_, _++_, flatMap, foldl-append, foldl-map, append-nil}
 use mathlib.Core.Option.{Option, none, some}
-use lib.ListN.{length, getD, drop, length-take, List·getD-eq-default}
-use lib.Dec.{T}
+use lib.ListN.{length, getD, drop, length-take}
 use Rattle.opcodes.specs.Lists.{upFrom, tabulate}
-use Rattle.opcodes.specs.Bytes.{u32s, overwrite}
+use Rattle.opcodes.specs.Bytes.{u32s}
 use Rattle.opcodes.specs.Words.{is, fieldBx, CLOSURE}
 use Rattle.roles.specs.Table.{Row, rowBytes, rowAt, rows, Proto, protoOf}
 use Rattle.roles.specs.Roles.{ClosureBinding, hasExtra, wordAt, executableAt, Executable, bindingCount, existing, companions, bindingWords}
-use Rattle.roles.specs.Bindings.{Binding, Write, bindingOf, writeOf, writesAt, writes, firstBinding, bindingTotal, bindingBytes, bindingRecords}
-use Rattle.roles.specs.Contracts.{recordsBetween, childOfRow, protoIn, recordsBefore, childBindings, companionsOf, claimedRoles, existingRoles, boundBy, boundFrom, boundClaim, RoomForAllOrNone, BindsFrom, Bindable, stored, boundIn}
-use Rattle.roles.specs.declared.search.Cursor.{Cursor}
+use Rattle.roles.specs.Bindings.{Write, bindingOf, writeOf, writesAt, writes, firstBinding, bindingTotal, bindingBytes}
+use Rattle.roles.specs.Contracts.{recordsBetween, childOfRow, protoIn, recordsBefore, childBindings, companionsOf, claimedRoles}
+use Rattle.roles.specs.BindingSteps.{boundBy, boundFrom, boundClaim, RoomForAllOrNone, BindsFrom, Bindable, stored, boundIn}
 use Rattle.roles.specs.declared.discovery.Companions.{Companions}
 use Rattle.roles.specs.declared.discovery.Companions.the-variants.{None, Bindings, Extra}
-use Rattle.opcodes.proofs.ListLaws.{upFrom-append, flatMap-append, foldl-append, foldl-map, foldl-flatMap, foldl-same, length-tabulate}
+use Rattle.opcodes.proofs.ListLaws.{upFrom-append, flatMap-append, foldl-flatMap, foldl-same, length-tabulate}
 use Rattle.opcodes.proofs.AllLaws.{flatMap-none, all-upFrom}
 use Rattle.opcodes.proofs.TestLaws.{T-true}
 use Rattle.opcodes.proofs.ByteLaws.{length-u32s, length-overwrite}
-use Rattle.roles.proofs.TableLaws.{length-rows, getD-rows, child-upvalues, child-missing}
+use Rattle.roles.proofs.TableLaws.{length-rows, getD-rows, child-upvalues}
 use Rattle.roles.proofs.TotalLaws.{records-front, records-next, between-first}
-use Rattle.roles.proofs.SearchLaws.{found}
+use Rattle.roles.proofs.SearchLaws.{found, no-upvalues}
 use Rattle.roles.proofs.RoleLaws.{companion-unexecutable}
-use Rattle.roles.proofs.RolePassLaws.{OwnerHere}
-use Rattle.roles.proofs.BindingRecordLaws.{bound-none}
+use Rattle.roles.proofs.RoleRecordLaws.{existingRoles}
+use Rattle.roles.proofs.RolePassLaws.{OwnerHere, OwnerStep}
 
 -- ---- the records of a child
 
@@ -51,15 +49,10 @@ child-records table row k c e =
       upvalues = child-upvalues (rowAt table row) (drop (suc row) (rows table)) [] k c e;
     }
 
--- a child that is missing has none
-none-missing : (table : List ℕ) (row k : ℕ) → childOfRow table row k ≡ none → getD (protoIn table row [] .children) k 0 ≡ 0
-unfolding childOfRow protoIn
-none-missing table row k e = List·getD-eq-default (protoIn table row [] .children) 0 (child-missing (rowAt table row) (drop (suc row) (rows table)) [] k e)
-
 -- ---- the writes of a CLOSURE, in a buffer
 
 module _ (table : List ℕ) (row : ℕ) where
-  pub bound-append : (vs us : List Write) (out : List ℕ) → boundIn table row (vs ++ us) out ≡ boundIn table row us (boundIn table row vs out)
+  bound-append : (vs us : List Write) (out : List ℕ) → boundIn table row (vs ++ us) out ≡ boundIn table row us (boundIn table row vs out)
   unfolding boundIn
   bound-append vs us out = foldl-append _ out vs us
 
@@ -77,7 +70,7 @@ module _ (table : List ℕ) (row : ℕ) where
     word-bound : (j pc w : ℕ) (out : List ℕ) → boundIn table row (writeOf k j pc w) out ≡ boundBy (firstBinding (rows table) (c .row) + j) pc w out
     unfolding boundIn writeOf boundBy stored
     word-bound j pc w out =
-        foldl-map _ _ out (bindingOf pc w)
+        foldl-map _ _ (bindingOf pc w) out
         ∙ foldl-same _ _ (λ o b. ap (λ (x : Option Row). stored (rows table) x (record { child = k; upvalue = j; binding = b }) o) named) out (bindingOf pc w)
 
     words-bound : (words : List ℕ) (pc n : ℕ) (out : List ℕ)
@@ -122,7 +115,10 @@ module _ (table : List ℕ) (row : ℕ) (code : List ℕ) where
 
   -- an executable word, and the companions that exist
   module _ (code-of : p .code ≡ u32s code) (base room : ℕ) (binds-from : BindsFrom table row base room)
-      (pc k w : ℕ) (cs : Companions) (o : OwnerHere p pc w k) (owns : cs ≡ companionsOf table row w) (size : k ≡ length (existingRoles (length code / 4) pc cs)) where
+      (pc k w : ℕ) (cs : Companions) (roles new-roles : List ℕ) (step : OwnerStep table row code pc w k cs roles new-roles) where
+    abbrev o : OwnerHere p pc w k
+    o = step .here
+
     -- a CLOSURE binds as many upvalues as there are words for them
     module _ (closure : is w (CLOSURE ∷ []) ≡ true) where
       abbrev upvalues : ℕ
@@ -133,12 +129,12 @@ module _ (table : List ℕ) (row : ℕ) (code : List ℕ) where
 
       claim : cs ≡ Bindings upvalues (recordsBefore table row named)
       unfolding companionsOf childBindings
-      claim = owns ∙ rw closure
+      claim = step .owned ∙ rw closure
 
       claimed : k ≡ min (length code / 4 - pc - 1) upvalues
       unfolding existingRoles claimedRoles
       claimed =
-          size
+          step .size
           ∙ ap (λ (c : Companions). length (existingRoles (length code / 4) pc c)) claim
           ∙ length-take (length code / 4 - pc - 1) (tabulate upvalues (ClosureBinding pc))
           ∙ ap (min (length code / 4 - pc - 1)) (length-tabulate (ClosureBinding pc) upvalues)
@@ -164,7 +160,7 @@ module _ (table : List ℕ) (row : ℕ) (code : List ℕ) where
       by-child : (c : Option Row) → named ≡ c → (out : List ℕ) → boundIn table row (writesAt p pc) out ≡ boundFrom (u32s code) (pc + 1) (base + recordsBefore table row c) k out
       unfolding flatMap boundIn boundFrom
       by-child none e out =
-          let z : k ≡ 0 = omega (arith, claimed, none-missing table row (fieldBx w) e) in
+          let z : k ≡ 0 = omega (arith, claimed, no-upvalues table row (fieldBx w) e) in
           ap (λ (vs : List Write). boundIn table row vs out) (writes-here ∙ ap (λ (n : ℕ). flatMap (λ j. writeOf (fieldBx w) j (pc + 1 + j) (getD (u32s code) (pc + 1 + j) 0)) (upFrom 0 n)) z)
           ∙ no-writes
           ∙ ap (λ (n : ℕ). boundFrom (u32s code) (pc + 1) (base + recordsBefore table row none) n out) (sym z)
@@ -185,7 +181,7 @@ module _ (table : List ℕ) (row : ℕ) (code : List ℕ) where
       closure-bindable = subst (Bindable base k room) (sym claim) (omega (arith, claimed), fits (binds-from .fits))
         where
           all : (c : Option Row) → named ≡ c → bindingBytes * bindingTotal (rows table) ≤ room → bindingBytes * (base + recordsBefore table row c + upvalues) ≤ room
-          all none e h = omega (arith, none-missing table row (fieldBx w) e, binds-from .begins, records-front (rows table) (suc row))
+          all none e h = omega (arith, no-upvalues table row (fieldBx w) e, binds-from .begins, records-front (rows table) (suc row))
           all (some c) e h =
               let r = child-records table row (fieldBx w) c e in
               let at : firstBinding (rows table) (c .row) ≡ base + recordsBefore table row (some c) = place c e in
@@ -202,8 +198,8 @@ module _ (table : List ℕ) (row : ℕ) (code : List ℕ) where
       other-claim = go (hasExtra w) refl
         where
           go : (b : Bool) → hasExtra w ≡ b → (cs ≡ Extra) ⊎ (cs ≡ None)
-          go true e = inl (owns ∙ rw (other, e))
-          go false e = inr (owns ∙ rw (other, e))
+          go true e = inl (step .owned ∙ rw (other, e))
+          go false e = inr (step .owned ∙ rw (other, e))
 
       none-bound : bindingWords p pc ≡ min 0 (length (p .code) - (pc + 1))
       unfolding bindingWords existing bindingCount

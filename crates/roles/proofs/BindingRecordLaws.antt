@@ -1,29 +1,28 @@
 -- The records of bindings as bytes: one record, several after one another, and those that binding words set. Assumes nothing.
 use Prim.Native.Nat.{ℕ, zero, suc, _+_, _*_, _%_, _≤_, _<_}
-use native.Mathlib.Nat.{zero-add, add-zero}
+use native.Mathlib.Nat.{zero-add}
 use native.Mathlib.Numerals.{add-one}
 use native.Mathlib.Omega.{arith}
 use mathlib.Core.Path.{_≡_, refl, sym, _∙_, ap, ap₂, subst}
 use mathlib.Core.Logic.{_⊎_, inl, inr}
-use mathlib.Core.List.{List, [], _∷_, _++_, map, flatMap, foldl, append-assoc, append-nil, map-append}
-use lib.ListN.{length, getD, take, drop, replicate, length-replicate, length-drop}
+use mathlib.Core.List.{List, [], _∷_, _++_, flatMap, foldl}
+use lib.ListN.{length, getD, take, drop, replicate, length-replicate, replicate-append-replicate, length-drop}
 use lib.Seq.{length-take-le}
-use lib.IntN.{pos}
-use Rattle.opcodes.specs.Lists.{only, upFrom}
+use Rattle.opcodes.specs.Lists.{only}
 use Rattle.opcodes.specs.Bytes.{i32Bits, i32Record, u32Record, overwrite}
-use Rattle.opcodes.specs.Words.{decoded, is, operand, B, MOVE, GETUPVAL}
+use Rattle.opcodes.specs.Words.{decoded, MOVE, GETUPVAL}
 use Rattle.opcodes.specs.declared.RawInstruction51.{RawInstruction51}
 use Rattle.roles.specs.Bindings.{Binding, unbound, bindingIndex, bindingOf, bindingFields, bindingBytes, bindingRecords}
-use Rattle.roles.specs.Contracts.{boundBy, boundFrom, boundClaim, Bindable}
+use Rattle.roles.specs.BindingSteps.{setRecord, boundBy, boundFrom, boundClaim, Bindable}
 use Rattle.roles.specs.declared.discovery.Companions.{Companions}
 use Rattle.roles.specs.declared.discovery.Companions.the-variants.{None, Bindings, Extra}
-use Rattle.opcodes.proofs.ListLaws.{flatMap-append, length-flatMap, foldl-next}
-use Rattle.opcodes.proofs.ByteLaws.{length-i32Record, u32Record-append, length-overwrite, overwrite-none, overwrite-unfit, overwrite-next}
+use Rattle.opcodes.proofs.ListLaws.{length-flatMap, foldl-next}
+use Rattle.opcodes.proofs.ByteLaws.{length-i32Record, i32Record-append, length-overwrite, overwrite-none, overwrite-unfit, overwrite-next}
 use Rattle.opcodes.proofs.PartLaws.{paste-part, by-part}
 use Rattle.roles.proofs.OwnerLaws.{has-opcode, has-other}
 
 -- a record by the bits of its fields
-pub one-binding : (b : Binding) → bindingRecords (b ∷ []) ≡ u32Record (b .instack ∷ b .idx ∷ i32Bits (b .pc) ∷ [])
+one-binding : (b : Binding) → bindingRecords (b ∷ []) ≡ u32Record (b .instack ∷ b .idx ∷ i32Bits (b .pc) ∷ [])
 unfolding bindingRecords i32Record flatMap bindingFields i32Bits
 one-binding b = refl
 
@@ -32,21 +31,14 @@ unfolding bindingRecords bindingFields
 length-bindings bs = length-i32Record (flatMap bindingFields bs) ∙ omega (arith, length-flatMap bindingFields 3 (λ b. refl) bs)
 
 pub bindings-append : (bs cs : List Binding) → bindingRecords (bs ++ cs) ≡ bindingRecords bs ++ bindingRecords cs
-unfolding bindingRecords i32Record
-bindings-append bs cs =
-    ap (λ l. u32Record (map i32Bits l)) (flatMap-append bindingFields bs cs)
-    ∙ ap u32Record (map-append i32Bits (flatMap bindingFields bs) (flatMap bindingFields cs))
-    ∙ u32Record-append (map i32Bits (flatMap bindingFields bs)) (map i32Bits (flatMap bindingFields cs))
+unfolding bindingRecords
+bindings-append bs cs = i32Record-append bindingFields bs cs
 
 -- ---- records of upvalues that nothing binds
 
 pub unbound-none : (old : List ℕ) → old ≡ overwrite old 0 (bindingRecords (replicate 0 unbound))
 unfolding bindingRecords i32Record u32Record flatMap
 unbound-none old = sym (overwrite-none old 0)
-
-replicate-next : (n : ℕ) → replicate (suc n) unbound ≡ replicate n unbound ++ (unbound ∷ [])
-replicate-next zero = refl
-replicate-next (suc n) = ap (λ (l : List Binding). unbound ∷ l) (replicate-next n)
 
 pub unbound-next : (old m new : List ℕ) (i : ℕ) → bindingBytes * i + bindingBytes ≤ length old → m ≡ overwrite old 0 (bindingRecords (replicate i unbound))
     → new ≡ overwrite m (bindingBytes * i) (u32Record (0 ∷ 0 ∷ 0xffff_ffff ∷ [])) → new ≡ overwrite old 0 (bindingRecords (replicate (i + 1) unbound))
@@ -58,7 +50,7 @@ unbound-next old m new i room e d =
     ∙ ap (overwrite m (bindingBytes * i)) (sym (one-binding unbound))
     ∙ ap₂ (λ (l : List ℕ) (n : ℕ). overwrite l n (bindingRecords (unbound ∷ []))) e size
     ∙ overwrite-next old 0 (bindingRecords us) (bindingRecords (unbound ∷ [])) (omega (arith, length-bindings us, length-replicate i unbound, length-bindings (unbound ∷ [])))
-    ∙ ap (overwrite old 0) (sym (ap (λ (n : ℕ). bindingRecords (replicate n unbound)) (add-one i) ∙ ap bindingRecords (replicate-next i) ∙ bindings-append us (unbound ∷ [])))
+    ∙ ap (overwrite old 0) (sym (ap bindingRecords (sym (replicate-append-replicate i 1 unbound)) ∙ bindings-append us (unbound ∷ [])))
 
 -- ---- a binding word
 
@@ -101,6 +93,22 @@ bound-more words old m new pc j w word e d =
     ∙ bound-next words pc 0 j old
     ∙ ap (λ (n : ℕ). boundBy n (pc + j) (getD words (pc + j) 0) (boundFrom words pc 0 j old)) (zero-add j))
 
+-- they keep the length of the buffer
+length-boundBy : (i pc w : ℕ) (part : List ℕ) → length (boundBy i pc w part) ≡ length part
+unfolding boundBy
+length-boundBy i pc w part = go (bindingOf pc w) part
+  where
+    go : (bs : List Binding) (l : List ℕ) → length (foldl (setRecord i) l bs) ≡ length l
+    go [] l = refl
+    go (b ∷ bs) l = go bs (overwrite l (bindingBytes * i) (bindingRecords (b ∷ []))) ∙ length-overwrite l (bindingBytes * i) (bindingRecords (b ∷ []))
+
+length-boundFrom : (words : List ℕ) (pc n : ℕ) (part : List ℕ) → length (boundFrom words pc 0 n part) ≡ length part
+length-boundFrom words pc zero part = ap length (sym (bound-none words pc 0 part))
+length-boundFrom words pc (suc n) part =
+    ap length (bound-next words pc 0 n part)
+    ∙ length-boundBy (0 + n) (pc + n) (getD words (pc + n) 0) (boundFrom words pc 0 n part)
+    ∙ length-boundFrom words pc n part
+
 -- ---- through a part of the buffer
 
 module _ (front rest : List ℕ) (first : ℕ) (begins : length front ≡ bindingBytes * first) where
@@ -108,34 +116,19 @@ module _ (front rest : List ℕ) (first : ℕ) (begins : length front ≡ bindin
   pasted part = front ++ (part ++ rest)
 
   pasted-records : (i : ℕ) (bs : List Binding) (part : List ℕ) → bindingBytes * i + bindingBytes ≤ length part
-      → pasted (foldl (λ (out : List ℕ) b. overwrite out (bindingBytes * i) (bindingRecords (b ∷ []))) part bs)
-      ≡ foldl (λ (out : List ℕ) b. overwrite out (bindingBytes * (first + i)) (bindingRecords (b ∷ []))) (pasted part) bs
+      → pasted (foldl (setRecord i) part bs)
+      ≡ foldl (setRecord (first + i)) (pasted part) bs
   pasted-records i [] part h = refl
   pasted-records i (b ∷ bs) part h =
       let new = bindingRecords (b ∷ []) in
       let to : length front + bindingBytes * i ≡ bindingBytes * (first + i) = omega arith in
       pasted-records i bs (overwrite part (bindingBytes * i) new) (omega (arith, length-overwrite part (bindingBytes * i) new))
-      ∙ ap (λ (l : List ℕ). foldl (λ (out : List ℕ) b. overwrite out (bindingBytes * (first + i)) (bindingRecords (b ∷ []))) l bs)
+      ∙ ap (λ (l : List ℕ). foldl (setRecord (first + i)) l bs)
       (paste-part front part rest (bindingBytes * i) new (omega (arith, length-bindings (b ∷ []))) ∙ ap (λ (n : ℕ). overwrite (pasted part) n new) to)
 
   pasted-word : (i pc w : ℕ) (part : List ℕ) → bindingBytes * i + bindingBytes ≤ length part → pasted (boundBy i pc w part) ≡ boundBy (first + i) pc w (pasted part)
   unfolding boundBy
   pasted-word i pc w part h = pasted-records i (bindingOf pc w) part h
-
-  length-boundBy : (i pc w : ℕ) (part : List ℕ) → length (boundBy i pc w part) ≡ length part
-  unfolding boundBy
-  length-boundBy i pc w part = go (bindingOf pc w) part
-    where
-      go : (bs : List Binding) (l : List ℕ) → length (foldl (λ (out : List ℕ) b. overwrite out (bindingBytes * i) (bindingRecords (b ∷ []))) l bs) ≡ length l
-      go [] l = refl
-      go (b ∷ bs) l = go bs (overwrite l (bindingBytes * i) (bindingRecords (b ∷ []))) ∙ length-overwrite l (bindingBytes * i) (bindingRecords (b ∷ []))
-
-  length-boundFrom : (words : List ℕ) (pc n : ℕ) (part : List ℕ) → length (boundFrom words pc 0 n part) ≡ length part
-  length-boundFrom words pc zero part = ap length (sym (bound-none words pc 0 part))
-  length-boundFrom words pc (suc n) part =
-      ap length (bound-next words pc 0 n part)
-      ∙ length-boundBy (0 + n) (pc + n) (getD words (pc + n) 0) (boundFrom words pc 0 n part)
-      ∙ length-boundFrom words pc n part
 
   pasted-words : (words : List ℕ) (pc n : ℕ) (part : List ℕ) → bindingBytes * n ≤ length part → pasted (boundFrom words pc 0 n part) ≡ boundFrom words pc first n (pasted part)
   pasted-words words pc zero part h = ap pasted (sym (bound-none words pc 0 part)) ∙ bound-none words pc first (pasted part)
@@ -160,10 +153,10 @@ child-bound words old part pc first size count n whole few inside e =
 
 -- ---- in a buffer that has room for no record
 
-records-unfit : (i : ℕ) (bs : List Binding) (old : List ℕ) → length old < bindingBytes → foldl (λ (out : List ℕ) b. overwrite out (bindingBytes * i) (bindingRecords (b ∷ []))) old bs ≡ old
+records-unfit : (i : ℕ) (bs : List Binding) (old : List ℕ) → length old < bindingBytes → foldl (setRecord i) old bs ≡ old
 records-unfit i [] old h = refl
 records-unfit i (b ∷ bs) old h =
-    ap (λ (l : List ℕ). foldl (λ (out : List ℕ) b. overwrite out (bindingBytes * i) (bindingRecords (b ∷ []))) l bs)
+    ap (λ (l : List ℕ). foldl (setRecord i) l bs)
     (overwrite-unfit old (bindingBytes * i) (bindingRecords (b ∷ [])) (omega (arith, length-bindings (b ∷ []))))
     ∙ records-unfit i bs old h
 

@@ -2,17 +2,18 @@
 use Prim.Native.Nat.{ℕ, _*_, _/_, _≤_, _<_}
 use native.Mathlib.Omega.{arith}
 use mathlib.Core.Path.{_≡_, refl, sym, _∙_, ap}
-use mathlib.Core.List.{List, [], _∷_, foldl, flatMap}
+use mathlib.Core.List.{List, [], _∷_, flatMap}
 use mathlib.Core.Option.{Option, none, some}
-use lib.ListN.{length, set, drop, replicate, length-set, length-replicate}
+use lib.ListN.{length, drop, replicate, length-replicate}
 use borrow.Author.Tests.{lt-ltb, le-ltb}
 use Rattle.opcodes.specs.Bytes.{u32s, overwrite}
 use Rattle.roles.specs.Table.{Row, rowBytes, rows, protos, protoOf, childAt}
 use Rattle.roles.specs.Roles.{roles, recordsOf}
-use Rattle.roles.specs.Bindings.{Binding, unbound, Write, writes, bindingTotal, setBinding, bindRows, bindings, bindingBytes, bindingRecords}
-use Rattle.roles.specs.Refusals.{Refused, refuse, refuseIf, orElse, maxBindings, rolesRefusal, tooShort}
+use Rattle.roles.specs.Bindings.{Binding, unbound, writes, bindingTotal, bindRows, bindings, bindingBytes, bindingRecords}
+use Rattle.roles.specs.Refusals.{Refused, refuse, refuseIf, orElse, rolesRefusal, tooShort}
 use Rattle.roles.specs.Calls.{answer, filled, rolesAfter, imageBindings, bindingsRefusal, bindingsAnswer, bindingsAfter}
-use Rattle.roles.specs.Contracts.{refusedOf, givenRefusal, answerOf, fieldTotal, boundRows}
+use Rattle.roles.specs.Contracts.{refusedOf, givenRefusal, answerOf, fieldTotal}
+use Rattle.roles.specs.BindingSteps.{maxBindings, boundRows}
 use Rattle.roles.specs.declared.refusals.Refusal.{Refusal}
 use Rattle.roles.specs.declared.refusals.Refusal.the-variants as refusal
 use Rattle.roles.specs.declared.refusals.Acceptance.{Acceptance}
@@ -20,18 +21,9 @@ use Rattle.roles.specs.declared.refusals.Acceptance.the-variants as acce
 use Rattle.roles.specs.declared.calls.Answer.the-variants as answered
 use Rattle.roles.proofs.TotalLaws.{record-fields}
 use Rattle.roles.proofs.RolesCallLaws.{not-refused}
-use Rattle.roles.proofs.BindingFillLaws.{few-records, rows-bound}
+use Rattle.roles.proofs.BindingFillLaws.{length-writes, few-records, rows-bound}
 
 -- ---- there is a record for each upvalue
-
-length-setBinding : (all : List Row) (o : Option Row) (v : Write) (bs : List Binding) → length (setBinding all o v bs) ≡ length bs
-unfolding setBinding
-length-setBinding all none v bs = refl
-length-setBinding all (some c) v bs = length-set bs _ (v .binding)
-
-length-writes : (all : List Row) (f : Write → Option Row) (vs : List Write) (bs : List Binding) → length (foldl (λ (bs : List Binding) (v : Write). setBinding all (f v) v bs) bs vs) ≡ length bs
-length-writes all f [] bs = refl
-length-writes all f (v ∷ vs) bs = length-writes all f vs (setBinding all (f v) v bs) ∙ length-setBinding all (f v) v bs
 
 length-bindRows : (all rs : List Row) (words : List ℕ) (bs : List Binding) → length (bindRows all rs words bs) ≡ length bs
 unfolding bindRows
@@ -40,7 +32,7 @@ length-bindRows all (r ∷ rs) words bs =
     length-bindRows all rs (drop (r .words) words) _
     ∙ length-writes all (λ v. childAt (r .depth) rs (v .child)) (writes (protoOf r rs words)) bs
 
-pub length-image : (table words : List ℕ) → length (imageBindings table words) ≡ bindingTotal (rows table)
+length-image : (table words : List ℕ) → length (imageBindings table words) ≡ bindingTotal (rows table)
 unfolding imageBindings bindings
 length-image table words = length-bindRows (rows table) (rows table) (u32s words) _ ∙ length-replicate (bindingTotal (rows table)) unbound
 

@@ -22,20 +22,14 @@ module _ (w : ℕ) (r : RawInstruction51) (split : r ≡ decoded w) where
   has-other op f = rw (ne-eqb (opcode w) op (λ e. f (ap (λ (x : RawInstruction51). x .«opcode_num») split ∙ e)))
 
 module _ (table : List ℕ) (row w : ℕ) (r : RawInstruction51) (split : r ≡ decoded w) where
-  same : (op : ℕ) → r .«opcode_num» ≡ op → is w (op ∷ []) ≡ true
-  same = has-opcode w r split
-
-  other : (op : ℕ) → (r .«opcode_num» ≡ op → ⊥) → is w (op ∷ []) ≡ false
-  other = has-other w r split
-
   pub owns-bindings : r .«opcode_num» ≡ CLOSURE → childBindings table row (r .bx) ≡ companionsOf table row w
   unfolding companionsOf decoded
-  owns-bindings e = ap (λ (x : RawInstruction51). childBindings table row (x .bx)) split ∙ rw (same CLOSURE e)
+  owns-bindings e = ap (λ (x : RawInstruction51). childBindings table row (x .bx)) split ∙ rw (has-opcode w r split CLOSURE e)
 
   pub owns-extra : (r .«opcode_num» ≡ CLOSURE → ⊥) → r .«opcode_num» ≡ SETLIST → cond (eqb (r .c) 0) Extra None ≡ companionsOf table row w
   unfolding companionsOf hasExtra decoded
-  owns-extra f e = ap (λ (x : RawInstruction51). cond (eqb (x .c) 0) Extra None) split ∙ rw (other CLOSURE f, same SETLIST e)
+  owns-extra f e = ap (λ (x : RawInstruction51). cond (eqb (x .c) 0) Extra None) split ∙ rw (has-other w r split CLOSURE f, has-opcode w r split SETLIST e)
 
   pub owns-nothing : (r .«opcode_num» ≡ CLOSURE → ⊥) → (r .«opcode_num» ≡ SETLIST → ⊥) → None ≡ companionsOf table row w
   unfolding companionsOf hasExtra
-  owns-nothing f g = rw (other CLOSURE f, other SETLIST g)
+  owns-nothing f g = rw (has-other w r split CLOSURE f, has-other w r split SETLIST g)

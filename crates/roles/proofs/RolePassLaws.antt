@@ -4,23 +4,23 @@ use native.Mathlib.Nat.{add-zero, add-suc, suc-add}
 use native.Mathlib.Omega.{arith}
 use mathlib.Core.Path.{_≡_, refl, sym, _∙_, ap, ap₂, subst, subst⁻¹}
 use mathlib.Core.Bool.{Bool, true, false}
-use mathlib.Core.List.{List, [], _∷_, _++_, append-nil, append-assoc}
+use mathlib.Core.List.{List, [], _∷_, _++_, append-nil}
 use lib.Dec.{T}
 use lib.ListN.{length, getD, take, drop, length-take, length-drop}
 use lib.Seq.{take-nil, take-all, take-at, take-add, drop-at, drop-drop, drop-cons, getD-drop, length-take-le}
 use Rattle.opcodes.specs.Lists.{only}
 use Rattle.opcodes.specs.Bytes.{u32At, u32s, overwrite}
 use Rattle.opcodes.specs.Words.{is, CLOSURE, SETLIST}
-use Rattle.roles.specs.Table.{rowBytes, rowAt, Proto, protoOf}
+use Rattle.roles.specs.Table.{rowAt, Proto, protoOf}
 use Rattle.roles.specs.Roles.{Role, Instruction, bindingCount, hasExtra, claims, rolesFrom, roles, roleAt, wordAt, Executable, existing, companions, roleBytes, recordsOf}
-use Rattle.roles.specs.Contracts.{Tracks, protoIn, childBindings, companionsOf, claimedRoles, existingRoles}
+use Rattle.roles.specs.Contracts.{Tracks, protoIn, childBindings, companionsOf, claimedRoles}
 use Rattle.roles.specs.declared.search.Cursor.{Cursor}
 use Rattle.roles.specs.declared.discovery.Companions.{Companions}
 use Rattle.opcodes.proofs.ByteLaws.{length-u32s, getD-u32s, length-overwrite}
 use Rattle.opcodes.proofs.TestLaws.{T-and, is-not}
 use Rattle.roles.proofs.RoleLaws.{role-executable, executable, owned-count}
 use Rattle.roles.proofs.RoleBufferLaws.{length-roles}
-use Rattle.roles.proofs.RoleRecordLaws.{records-none, records-next}
+use Rattle.roles.proofs.RoleRecordLaws.{records-none, records-next, Marked, existingRoles, owner-marked}
 
 -- ---- a list from index k on, by its front
 
@@ -71,6 +71,14 @@ pub record OwnerHere (p : Proto) (pc w k : ℕ) : Type 0 where
   pub word : wordAt p pc ≡ w
   pub count : k ≡ companions p pc
 
+-- after it, k companions are marked
+pub record OwnerStep (table : List ℕ) (row : ℕ) (code : List ℕ) (pc w k : ℕ) (cs : Companions) (out new : List ℕ) : Type 0 where
+  pub owned : cs ≡ companionsOf table row w
+  pub size : k ≡ length (existingRoles (length code / 4) pc cs)
+  pub most : k < length code / 4 - pc
+  pub written : new ≡ overwrite out (roleBytes * pc) (recordsOf (Instruction ∷ existingRoles (length code / 4) pc cs))
+  pub here : OwnerHere (protoIn table row (u32s code)) pc w k
+
 module _ (table : List ℕ) (row : ℕ) (code : List ℕ) (stated : rowAt table row .words ≡ length code / 4) where
   abbrev p : Proto
   p = protoIn table row (u32s code)
@@ -117,13 +125,14 @@ module _ (table : List ℕ) (row : ℕ) (code : List ℕ) (stated : rowAt table 
           ∙ ap (λ (l : List Role). Instruction ∷ l)
           (past-claims p (suc pc) (claims p pc w) ws ∙ ap (λ (l : List Role). l ++ rolesFrom p (suc pc + length l) [] (drop (length l) ws)) claimed)
 
-      pub pass-next : (new : List ℕ) (k : ℕ) (u′ : Cursor) → Tracks table row u′ → k ≡ length mine → k < length code / 4 - pc
-          → new ≡ overwrite out (roleBytes * pc) (recordsOf (Instruction ∷ mine)) → RolePass table row code old new (pc + (1 + k)) u′
-      pass-next new k u′ r l most d =
+      pub pass-next : (new : List ℕ) (k : ℕ) (u′ : Cursor) → Tracks table row u′ → OwnerStep table row code pc w k cs out new → RolePass table row code old new (pc + (1 + k)) u′
+      pass-next new k u′ r step =
+          let l = step .size in
+          let most = step .most in
           let rs = take pc (roles p) in
           let here : length rs ≡ pc = length-take-le pc (roles p) (omega (arith, count)) in
           let all : new ≡ overwrite old 0 (recordsOf (rs ++ (Instruction ∷ mine))) =
-          records-next old out new 0 (roleBytes * pc) rs (Instruction ∷ mine) (omega arith) (omega arith) (v .written) d in
+          records-next old out new 0 (roleBytes * pc) rs (Instruction ∷ mine) (omega arith) (omega arith) (v .written) (step .written) in
           let to : pc + (1 + k) ≡ pc + suc (length mine) = omega arith in
           let on : suc pc + length mine ≡ pc + suc (length mine) = omega arith in
           record {
@@ -149,7 +158,7 @@ module _ (table : List ℕ) (row : ℕ) (code : List ℕ) (stated : rowAt table 
           executable p pc (omega (arith, ap length code-of, length-u32s code))
           (role-executable (ap (λ (n : ℕ). getD (roles p) n Instruction) (sym (add-zero pc)) ∙ sym (getD-drop pc (roles p) 0 Instruction) ∙ ap (λ (l : List Role). getD l 0 Instruction) front))
 
-      pub owner-here : (k : ℕ) → k ≡ length mine → OwnerHere p pc w k
+      owner-here : (k : ℕ) → k ≡ length mine → OwnerHere p pc w k
       unfolding companions existing
       owner-here k e =
           let ws = drop (suc pc) (u32s code) in
@@ -166,3 +175,9 @@ module _ (table : List ℕ) (row : ℕ) (code : List ℕ) (stated : rowAt table 
               ap (λ (x : ℕ). length (claims p pc x)) word-here,
             );
           }
+
+      -- the word was read, its role and those of its companions were marked
+      pub owner-step : (m new : List ℕ) (k : ℕ) → m ≡ overwrite out (roleBytes * pc) (recordsOf (Instruction ∷ [])) → Marked m new pc (length code / 4 - pc - 1) cs k → OwnerStep table row code pc w k cs out new
+      owner-step m new k first marks =
+          let marked = owner-marked out m new pc (length code / 4) k cs there (omega (arith, v .long)) first marks in
+          record { owned = owns; size = marked .0; most = marked .1 .1; written = marked .1 .0; here = owner-here k (marked .0) }

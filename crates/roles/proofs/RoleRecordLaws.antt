@@ -3,17 +3,17 @@ use Prim.Native.Nat.{ℕ, _+_, _-_, _*_, _≤_, _<_}
 use native.Mathlib.Numerals.{add-one}
 use native.Mathlib.Omega.{arith}
 use mathlib.Core.Path.{_≡_, refl, sym, _∙_, ap, ap₂}
-use mathlib.Core.List.{List, [], _∷_, _++_, map, flatMap, map-append}
+use mathlib.Core.List.{List, [], _∷_, _++_, flatMap}
 use lib.ListN.{length, take, length-take}
 use lib.Seq.{take-all, take-nil}
 use Rattle.opcodes.specs.Lists.{tabulate}
-use Rattle.opcodes.specs.Bytes.{i32Bits, i32Record, u32Record, overwrite}
+use Rattle.opcodes.specs.Bytes.{i32Record, u32Record, overwrite}
 use Rattle.roles.specs.Roles.{Role, Instruction, ClosureBinding, SetlistExtra, roleFields, roleBytes, recordsOf}
-use Rattle.roles.specs.Contracts.{ownerField, indexField, claimedRoles, existingRoles}
+use Rattle.roles.specs.Contracts.{ownerField, indexField, claimedRoles}
 use Rattle.roles.specs.declared.discovery.Companions.{Companions}
 use Rattle.roles.specs.declared.discovery.Companions.the-variants.{None, Bindings, Extra}
-use Rattle.opcodes.proofs.ListLaws.{flatMap-append, length-flatMap, length-tabulate, tabulate-next, take-tabulate}
-use Rattle.opcodes.proofs.ByteLaws.{length-i32Record, u32Record-append, overwrite-none, overwrite-next}
+use Rattle.opcodes.proofs.ListLaws.{length-flatMap, length-tabulate, tabulate-next, take-tabulate}
+use Rattle.opcodes.proofs.ByteLaws.{length-i32Record, i32Record-append, overwrite-none, overwrite-next}
 use Rattle.roles.proofs.RoleBufferLaws.{length-roleFields}
 
 -- a role's record has its two fields
@@ -27,12 +27,9 @@ pub length-records : (rs : List Role) → length (recordsOf rs) ≡ roleBytes * 
 unfolding recordsOf
 length-records rs = length-i32Record (flatMap roleFields rs) ∙ omega (arith, length-flatMap roleFields 2 length-roleFields rs)
 
-pub records-append : (rs ss : List Role) → recordsOf (rs ++ ss) ≡ recordsOf rs ++ recordsOf ss
-unfolding recordsOf i32Record
-records-append rs ss =
-    ap (λ l. u32Record (map i32Bits l)) (flatMap-append roleFields rs ss)
-    ∙ ap u32Record (map-append i32Bits (flatMap roleFields rs) (flatMap roleFields ss))
-    ∙ u32Record-append (map i32Bits (flatMap roleFields rs)) (map i32Bits (flatMap roleFields ss))
+records-append : (rs ss : List Role) → recordsOf (rs ++ ss) ≡ recordsOf rs ++ recordsOf ss
+unfolding recordsOf
+records-append rs ss = i32Record-append roleFields rs ss
 
 pub records-none : (old : List ℕ) (at : ℕ) → old ≡ overwrite old at (recordsOf [])
 unfolding recordsOf i32Record u32Record flatMap
@@ -87,6 +84,9 @@ module _ (old new : List ℕ) (pc room : ℕ) (cs : Companions) where
   marked-extra n e l d = these (take room (claimedRoles pc Extra)) n (ap (λ (x : Companions). take room (claimedRoles pc x)) e) l d
 
 -- ---- an executable word, and the companions that exist among n words
+
+unfoldable pub existingRoles : ℕ → ℕ → Companions → List Role
+existingRoles n pc cs = take (n - pc - 1) (claimedRoles pc cs)
 
 pub owner-marked : (old m new : List ℕ) (pc n k : ℕ) (cs : Companions) → pc < n → roleBytes * n ≤ length old → m ≡ overwrite old (roleBytes * pc) (recordsOf (Instruction ∷ []))
     → Marked m new pc (n - pc - 1) cs k → (k ≡ length (existingRoles n pc cs)) × ((new ≡ overwrite old (roleBytes * pc) (recordsOf (Instruction ∷ existingRoles n pc cs))) × (k < n - pc))

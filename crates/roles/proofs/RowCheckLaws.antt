@@ -1,6 +1,5 @@
 -- The checks of a table row by row: refusals 4 and 5, and the words that the rows state. Assumes nothing.
-use Prim.Native.Nat.{ℕ, _+_, _*_, _/_, _≤_, _<_}
-use native.Mathlib.Nat.{add-zero, add-assoc}
+use Prim.Native.Nat.{ℕ, _+_, _/_, _≤_, _<_}
 use native.Mathlib.Numerals.{add-one}
 use native.Mathlib.Omega.{arith}
 use mathlib.Core.Path.{_≡_, sym, _∙_, ap, subst}
@@ -10,8 +9,8 @@ use mathlib.Core.Option.{none}
 use lib.Dec.{leb, leb→le, T}
 use lib.ListN.{length, drop, drop-of-length-le}
 use borrow.Author.Tests.{not-false}
-use Rattle.roles.specs.Table.{Row, rowBytes, fieldAt, rowAt, rows}
-use Rattle.roles.specs.Refusals.{refuse, refuseIf, orElse, depthFits, badDepth, fieldsFit, badField, wordTotal}
+use Rattle.roles.specs.Table.{rowBytes, fieldAt, rowAt, rows}
+use Rattle.roles.specs.Refusals.{refuse, refuseIf, orElse, depthFits, badDepth, fieldsFit, badField}
 use Rattle.opcodes.proofs.TestLaws.{T-and}
 use Rattle.roles.proofs.TableLaws.{length-rows, drop-rows}
 

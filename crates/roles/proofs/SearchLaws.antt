@@ -128,7 +128,7 @@ pub find-none : (table : List ℕ) (at d k first : ℕ) → length table / rowBy
 find-none table at d k first h = find-few table at d k first (omega arith)
 
 -- from a later row, where the records of the rows between are counted in
-pub from-later : (table : List ℕ) (d i j k first next : ℕ) → i ≤ j → next ≡ (first + recordsBetween table i j) % 2 ^ 32 → search table j d k next ≡ childFrom table i first (childAt d (drop j (rows table)) k)
+from-later : (table : List ℕ) (d i j k first next : ℕ) → i ≤ j → next ≡ (first + recordsBetween table i j) % 2 ^ 32 → search table j d k next ≡ childFrom table i first (childAt d (drop j (rows table)) k)
 unfolding childFrom
 from-later table d i j k first next h e = go (childAt d (drop j (rows table)) k) refl
   where
@@ -247,13 +247,15 @@ module _ (table : List ℕ) (parent : ℕ) where
       go (some c) e = let z : _≡_ {A = ℕ} 0 1 = cc in absurd (omega arith)
 
   -- a missing child has no upvalues
+  pub no-upvalues : (k : ℕ) → childOfRow table parent k ≡ none → getD (protoIn table parent [] .children) k 0 ≡ 0
+  unfolding childOfRow protoIn
+  no-upvalues k e = List·getD-eq-default (protoIn table parent [] .children) 0 (child-missing (rowAt table parent) (drop (suc parent) (rows table)) [] k e)
+
   pub missing-child : (k : ℕ) → child.Missing ≡ child-of k → Bindings 0 0 ≡ childBindings table parent k
-  unfolding childOfRow protoIn childBindings recordsBefore
+  unfolding childBindings recordsBefore
   missing-child k e =
-      let none-there = missing k e in
-      let zero-of : 0 ≡ getD (protoIn table parent [] .children) k 0 =
-      sym (List·getD-eq-default (protoIn table parent [] .children) 0 (child-missing (rowAt table parent) (drop (suc parent) (rows table)) [] k none-there)) in
-      ap (λ (n : ℕ). Bindings n 0) zero-of ∙ ap (λ (o : Option Row). Bindings (getD (protoIn table parent [] .children) k 0) (recordsBefore table parent o)) (sym none-there)
+      ap (λ (n : ℕ). Bindings n 0) (sym (no-upvalues k (missing k e)))
+      ∙ ap (λ (o : Option Row). Bindings (getD (protoIn table parent [] .children) k 0) (recordsBefore table parent o)) (sym (missing k e))
 
   -- ---- the cursor
 
@@ -291,6 +293,10 @@ module _ (table : List ℕ) (parent : ℕ) where
         ends = λ j h. element-past-end (children (rowAt table parent .depth) (drop (suc parent) (rows table))) j (omega (arith, element-missing (children (rowAt table parent .depth) (drop (suc parent) (rows table))) k (missing k e)));
       }
 
+  -- its records are counted from the prototype's own
+  placed : (u : Cursor) → Tracks table parent u → u .first ≡ (0 + recordsBetween table (suc parent) (u .row)) % 2 ^ 32
+  placed u v = v .counts ∙ ap (λ (n : ℕ). n % 2 ^ 32) (sym (zero-add (recordsBetween table (suc parent) (u .row))))
+
   -- it begins anew, or is resumed
   pub anew : (k d : ℕ) (c : Child) → d ≡ fieldAt table parent 0 → c ≡ search table (parent + 1) d k 0 → c ≡ child-of k
   unfolding childOfRow rowAt
@@ -300,10 +306,9 @@ module _ (table : List ℕ) (parent : ℕ) where
   unfolding rowAt
   resumed u k d c v h e f =
       let whole : u .index + (k - u .index) ≡ k = omega arith in
-      let place : u .first ≡ (0 + recordsBetween table (suc parent) (u .row)) % 2 ^ 32 = v .counts ∙ ap (λ (n : ℕ). n % 2 ^ 32) (sym (zero-add (recordsBetween table (suc parent) (u .row)))) in
       f
       ∙ ap (λ (n : ℕ). search table (u .row) n (k - u .index) (u .first)) e
-      ∙ from-later table (rowAt table parent .depth) (suc parent) (u .row) (k - u .index) 0 (u .first) (v .later) place
+      ∙ from-later table (rowAt table parent .depth) (suc parent) (u .row) (k - u .index) 0 (u .first) (v .later) (placed u v)
       ∙ sym (ap (childFrom table (suc parent) 0) (ap (childOfRow table parent) (sym whole) ∙ v .resumes (k - u .index)))
 
   -- the child last found is named again
@@ -312,5 +317,4 @@ module _ (table : List ℕ) (parent : ℕ) where
   named-again u k d r v same e f t =
       let whole : k ≡ u .index + 0 = omega arith in
       let here = child-here table (u .row) (rowAt table parent .depth) (ap (isChild table (u .row)) (sym e) ∙ sym f ∙ t) in
-      let place : u .first ≡ (0 + recordsBetween table (suc parent) (u .row)) % 2 ^ 32 = v .counts ∙ ap (λ (n : ℕ). n % 2 ^ 32) (sym (zero-add (recordsBetween table (suc parent) (u .row)))) in
-      ap (λ (n : ℕ). child.Row n (u .row)) place ∙ sym (ap (childFrom table (suc parent) 0) (ap (childOfRow table parent) whole ∙ v .resumes 0 ∙ here))
+      ap (λ (n : ℕ). child.Row n (u .row)) (placed u v) ∙ sym (ap (childFrom table (suc parent) 0) (ap (childOfRow table parent) whole ∙ v .resumes 0 ∙ here))

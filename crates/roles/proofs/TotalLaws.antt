@@ -4,15 +4,15 @@ use native.Mathlib.Nat.{mul-suc}
 use native.Mathlib.Omega.{arith}
 use mathlib.Core.Path.{_≡_, refl, sym, _∙_, ap, ap₂}
 use mathlib.Core.List.{List, [], _∷_, _++_, map}
-use lib.ListN.{length, getD, take, drop, length-drop}
-use lib.Seq.{take-add, take-all, drop-drop}
+use lib.ListN.{length, getD, take, drop}
+use lib.Seq.{take-add, drop-drop}
 use Rattle.opcodes.specs.Lists.{All, all-nil, all-cons, upFrom, tabulate, total}
 use Rattle.roles.specs.Table.{Row, rowBytes, fieldAt, rowAt, rows}
 use Rattle.roles.specs.Refusals.{wordTotal}
 use Rattle.roles.specs.Bindings.{bindingTotal, firstBinding}
 use Rattle.roles.specs.Contracts.{fieldTotal, recordsBetween}
 use Rattle.opcodes.proofs.ListLaws.{tabulate-next}
-use Rattle.roles.proofs.TableLaws.{length-rows, drop-rows}
+use Rattle.roles.proofs.TableLaws.{drop-rows}
 
 total-append : (ms ns : List ℕ) → total (ms ++ ns) ≡ total ms + total ns
 total-append [] ns = omega arith
@@ -92,7 +92,7 @@ module _ (table : List ℕ) where
   unfolding recordsBetween bindingTotal
   none-between i j h = let z : j - i ≡ 0 = omega arith in ap (λ (n : ℕ). bindingTotal (take n (drop i (rows table)))) z
 
-  pub between-front : (j : ℕ) → recordsBetween table 0 j ≡ firstBinding (rows table) j
+  between-front : (j : ℕ) → recordsBetween table 0 j ≡ firstBinding (rows table) j
   unfolding recordsBetween firstBinding
   between-front j = let z : j - 0 ≡ j = omega arith in ap (λ (n : ℕ). bindingTotal (take n (rows table))) z
 

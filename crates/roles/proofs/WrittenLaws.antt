@@ -1,7 +1,7 @@
 -- What an accepted call writes: its records fit, stand in front, and what lies past them is unchanged. Assumes nothing.
 use Prim.Native.Nat.{ℕ, _*_, _≤_}
 use native.Mathlib.Omega.{arith}
-use mathlib.Core.Path.{_≡_, refl, _∙_, ap}
+use mathlib.Core.Path.{_≡_, refl, sym, _∙_, ap}
 use mathlib.Core.List.{List, _++_, flatMap}
 use mathlib.Core.Option.{Option, none, some}
 use lib.IntN.{ℤ}
@@ -17,6 +17,7 @@ use Rattle.opcodes.proofs.ByteLaws.{length-i32Record, overwrite-front}
 use Rattle.opcodes.proofs.ListLaws.{length-flatMap}
 use Rattle.roles.proofs.RefusalLaws.{orElse-none, refuseIf-none, roles-kept}
 use Rattle.roles.proofs.RoleBufferLaws.{length-roleFields, length-all-roles}
+use Rattle.roles.proofs.BindingRecordLaws.{length-bindings}
 
 -- an accepted answer has no refusal, and is the result
 pub accepted-none : {A : Type 0} (o : Option Refused) (a c : A) → answer o a ≡ accepted c → o ≡ none
@@ -60,11 +61,10 @@ roles-written table words old e =
 
 pub bindings-written : (table words old : List ℕ) (roleLength : ℕ) → bindingsRefusal table words roleLength (length old) ≡ none
     → bindingsAfter table words roleLength old ≡ bindingRecords (imageBindings table words) ++ drop (bindingBytes * length (imageBindings table words)) old
-unfolding bindingsAfter bindingsRefusal bindingFields bindingRecords
+unfolding bindingsAfter bindingsRefusal bindingRecords
 bindings-written table words old roleLength e =
     let bs = imageBindings table words in
     let zs = flatMap bindingFields bs in
     let room = fits (length bs) _ (length old) (orElse-none (rolesRefusal table words roleLength) _ e .1) in
-    let count : length zs ≡ 3 * length bs = length-flatMap bindingFields 3 (λ b. refl) bs in
-    let size : 4 * length zs ≡ 12 * length bs = omega arith in
+    let size : 4 * length zs ≡ bindingBytes * length bs = sym (length-i32Record zs) ∙ length-bindings bs in
     written (bindingsRefusal table words roleLength (length old)) old zs e (omega arith) ∙ ap (λ (k : ℕ). i32Record zs ++ drop k old) size

@@ -4,4 +4,5 @@ pub mod Bindings
 pub mod Refusals
 pub mod Calls
 pub mod Contracts
+pub mod BindingSteps
 pub mod Examples

@@ -57,10 +57,6 @@ maxRows = 16384
 abbrev pub maxWordBytes : ℕ
 maxWordBytes = 4194304
 
--- no more upvalues can the rows of an accepted table have: 16,384 rows of 255
-abbrev pub maxBindings : ℕ
-maxBindings = 4177920
-
 -- 1 to 6, of the table and the words as bytes: no parts, ragged sheet, overfull, loose part, odd figure, miscount
 unfoldable pub imageRefusal : List ℕ → List ℕ → Option Refused
 imageRefusal table words =

@@ -18,7 +18,10 @@ ghost use lib.ListN.{drop, length};
 ghost use Rattle.opcodes.specs.Bytes.{overwrite, u32s};
 ghost use Rattle.roles.specs.Calls.{bindingsAfter, bindingsAnswer, rolesAfter, rolesAnswer};
 ghost use Rattle.roles.specs.Bindings.{writes};
-ghost use Rattle.roles.specs.Contracts.{BindsFrom, RoomForAllOrNone, answerOf, boundIn, boundRows, protoIn};
+ghost use Rattle.roles.specs.BindingSteps.{BindsFrom, RoomForAllOrNone, boundIn, boundRows};
+ghost use Rattle.roles.specs.Contracts.{answerOf, protoIn};
+ghost use Rattle.roles.specs.declared.calls.Answer.the-variants.{Refused};
+ghost use Rattle.roles.specs.declared.refusals.Refusal.the-variants.{BufferTooShort};
 ghost use Rattle.roles.specs.Refusals.{maxRows, maxWordBytes, rolesRefusal};
 ghost use Rattle.roles.specs.Roles.{recordsOf, roleBytes, roles as protoRoles};
 ghost use Rattle.roles.specs.Table.{rowAt, rowBytes};
@@ -42,7 +45,7 @@ pub fn write_roles(protos: &[u8], words: &[u8], roles: &mut [u8]) -> Answer
 }
 
 // Writes the roles of all words as `write_roles` does, and the bindings of all upvalues to the front of a second buffer, three i32 an upvalue.
-// Answers the number of bindings. Where they do not fit, the roles are written all the same.
+// Answers the number of bindings. A refused call writes nothing, but that 8, where the bindings do not fit, comes with the roles written.
 pub fn write_bindings(protos: &[u8], words: &[u8], roles: &mut [u8], bindings: &mut [u8]) -> Answer
     ensures { λ r. ⌜ answerOf r ≡ bindingsAnswer (now (protos .entry)) (now (words .entry)) (length (now (roles .entry))) (length (now (bindings .entry))) ⌝ }
     ensures { λ _. ⌜ now (roles .exit) ≡ rolesAfter (now (protos .entry)) (now (words .entry)) (now (roles .entry)) ⌝ }
@@ -51,14 +54,23 @@ pub fn write_bindings(protos: &[u8], words: &[u8], roles: &mut [u8], bindings: &
     if let Acceptance::Refused(refusal) = check_roles(protos, words, roles.len()) {
         return Answer::Refused(refusal);
     }
-    let count = field_total(protos, UPVALUES) as usize;
-    if bindings.len() / BINDING_BYTES < count {
-        fill_roles(protos, words, roles);
-        return Answer::Refused(Refusal::BufferTooShort(count as u32));
+    let count = field_total(protos, UPVALUES) as u32;
+    if bindings.len() / BINDING_BYTES < count as usize {
+        return refuse_short(protos, words, roles, count);
     }
-    unbind(bindings, count);
+    unbind(bindings, count as usize);
     fill_rows(protos, words, roles, bindings);
-    Answer::Records(count as u32)
+    Answer::Records(count)
+}
+
+// Refusal 8, for so many records.
+fn refuse_short(protos: &[u8], words: &[u8], out: &mut [u8], records: u32) -> Answer
+    requires { ⌜ rolesRefusal (now protos) (now words) (length (now out)) ≡ none ⌝ }
+    ensures { λ r. ⌜ r ≡ Refused (BufferTooShort records) ⌝ }
+    ensures { λ _. ⌜ now (out .exit) ≡ rolesAfter (now (protos .entry)) (now (words .entry)) (now (out .entry)) ⌝ }
+{
+    fill_roles(protos, words, out);
+    Answer::Refused(Refusal::BufferTooShort(records))
 }
 
 // The roles alone: no binding record fits into the buffer that is lent beside theirs.

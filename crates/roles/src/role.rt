@@ -12,7 +12,7 @@ ghost use Rattle.roles.specs.Roles.{recordsOf, roleBytes};
 // The length of a record in bytes.
 pub const ROLE_BYTES: usize = 8;
 
-// The bits of -1: no owner, no index.
+// The bits of -1: no owner, no index; of a binding, no pc.
 pub const NONE: u32 = 0xffff_ffff;
 
 // An executable word; a CLOSURE's binding word, with its pc and the upvalue's index; a SETLIST's extra word, with its pc.

@@ -21,7 +21,7 @@ pub const UPVALUES: usize = 3;
 
 pub const STACK: usize = 4;
 
-// The place of a child's first binding record and the child's row, or that there is none. (In this order the answer takes 16 bytes.)
+// The index of a child's first binding record and the child's row, or that there is none. (In this order the answer takes 16 bytes.)
 pub enum Child {
     Row(u32, usize),
     Missing,
@@ -35,8 +35,8 @@ pub fn field(protos: &[u8], row: usize, k: usize) -> u32
     read_u32(&protos[ROW_BYTES * row..ROW_BYTES * row + ROW_BYTES], 4 * k)
 }
 
-// Child k of a row of this depth, among the rows from `at` on. The rows left fall with each call. The place of its first binding record is
-// counted on from `first`, that of row `at` (modulo 2^32, which the records of an accepted table do not reach).
+// Child k of a row of this depth, among the rows from `at` on. The rows left fall with each call. The index of its first binding record is
+// counted on from `first`, that of row `at`'s, wherever the caller counts from (modulo 2^32, which an accepted table does not reach).
 pub fn find_child(protos: &[u8], at: usize, depth: u32, k: u32, first: u32) -> Child
     ensures { λ r. ⌜ r ≡ childFrom (now (protos .entry)) at first (childAt depth (drop at (rows (now (protos .entry)))) k) ⌝ }
 {

@@ -1,10 +1,10 @@
 -- `bindings::bind_words` meets its contract. Assumes nothing.
-use Prim.Native.Nat.{_+_, _-_, _*_, _≤_}
+use Prim.Native.Nat.{_+_, _-_, _≤_}
 use native.Mathlib.Omega.{arith}
 use mathlib.Core.Path.{_≡_, refl, sym, _∙_}
 use lib.ListN.{length}
 use Rattle.opcodes.specs.Bytes.{u32s}
-use Rattle.roles.specs.Contracts.{boundFrom}
+use Rattle.roles.specs.BindingSteps.{boundFrom}
 use Rattle.opcodes.proofs.ByteLaws.{getD-u32s}
 use Rattle.roles.proofs.BindingRecordLaws.{bound-none, bound-more}
 use Rattle.roles.proofs.bindings.bind_words.Statement.{statement}

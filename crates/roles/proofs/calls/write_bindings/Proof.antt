@@ -1,7 +1,9 @@
 -- `calls::write_bindings` meets its contract. Assumes nothing.
 use native.Mathlib.Omega.{arith}
+use mathlib.Core.Path.{_∙_, ap}
 use mathlib.Core.Logic.{inr}
 use borrow.Author.Needs.{needs}
+use Rattle.roles.specs.Contracts.{answerOf}
 use Rattle.roles.proofs.RolesCallLaws.{not-refused, few-rows}
 use Rattle.roles.proofs.BindingsCallLaws.{refused-call, call-kept, short-call, accepted-call}
 use Rattle.roles.proofs.calls.write_bindings.Statement.{statement}
@@ -13,21 +15,21 @@ refused c = refused-call _ _ _ _ _ (c .before .before .before .check-roles .ensu
 total-requires : tie.Need-field-total-requires
 total-requires c κs = (few-rows _ _ _ (not-refused _ _ _ _ (c .before .before .check-roles .ensures) (c .enum-told .given .1)), omega arith)
 
-roles-requires : tie.Need-fill-roles-requires
-roles-requires c κs = let b = c .before .before .before in not-refused _ _ _ _ (b .before .before .check-roles .ensures) (b .enum-told .given .1)
-
-short-cast : tie.Need-cast-t15
-short-cast c =
-    let f = c .before .before .before .before .before in
-    let k = call-kept _ _ _ _ (f .before .before .before .check-roles .ensures) (f .before .enum-told .given .1) _ (f .field-total .ensures .0) in
+cast-count : tie.Need-cast-count
+cast-count c =
+    let k = call-kept _ _ _ _ (c .before .before .before .check-roles .ensures) (c .before .enum-told .given .1) _ (c .field-total .ensures .0) in
     omega (arith, k .few)
+
+short-requires : tie.Need-refuse-short-requires
+short-requires c κs = let b = c .before .before .before in not-refused _ _ _ _ (b .before .before .check-roles .ensures) (b .enum-told .given .1)
 
 short : tie.Need-returns-2
 short c =
     let f = c .before .before .before .before .before in
     let k = call-kept _ _ _ _ (f .before .before .before .check-roles .ensures) (f .before .enum-told .given .1) _ (f .field-total .ensures .0) in
     let s = short-call _ _ _ _ _ k (c .before .before .before .before .if1 .taken) in
-    (s .0, (c .before .before .fill-roles .ensures, s .1))
+    let e = c .before .before .refuse-short .ensures in
+    (ap answerOf (e .0) ∙ s .0, (e .1, s .1))
 
 rows-requires : tie.Need-fill-rows-requires
 rows-requires c κs =
@@ -35,12 +37,6 @@ rows-requires c κs =
     let f = u .before .before .before in
     let k = call-kept _ _ _ _ (f .before .before .before .check-roles .ensures) (f .before .enum-told .given .1) _ (f .field-total .ensures .0) in
     (k .accepted, inr (omega (arith, k .count, u .before .before .if1 .left, u .unbind .kept .0)))
-
-cast : tie.Need-cast-t24
-cast c =
-    let f = c .before .before .before .before .before .before .before .before .before .before .before .before in
-    let k = call-kept _ _ _ _ (f .before .before .before .check-roles .ensures) (f .before .enum-told .given .1) _ (f .field-total .ensures .0) in
-    omega (arith, k .few)
 
 accepted : tie.Need-returns-3
 accepted c =
@@ -60,13 +56,14 @@ write-bindings-spec =
     refused
     (λ c. search needs)
     total-requires
-    roles-requires
-    short-cast
+    cast-count
+    (λ c. search needs)
+    short-requires
     (λ c. search needs)
     short
+    (λ c. search needs)
     (λ c κs. omega arith)
     rows-requires
-    cast
     (λ c. search needs)
     (λ c. search needs)
     accepted)

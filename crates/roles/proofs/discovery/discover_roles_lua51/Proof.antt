@@ -1,13 +1,12 @@
 -- `discovery::discover_roles_lua51` meets its contract. Assumes nothing.
 use Prim.Native.Nat.{suc, _-_, _/_}
 use native.Mathlib.Omega.{arith}
-use mathlib.Core.Path.{_≡_, refl, _∙_, ap, subst⁻¹}
+use mathlib.Core.Path.{_≡_, refl, subst⁻¹}
 use lib.ListN.{length}
 use Rattle.roles.specs.Table.{rows}
-use Rattle.roles.specs.Contracts.{companionsOf, BindsFrom}
+use Rattle.roles.specs.BindingSteps.{BindsFrom}
 use Rattle.roles.proofs.TotalLaws.{records-front}
-use Rattle.roles.proofs.RoleRecordLaws.{owner-marked}
-use Rattle.roles.proofs.RolePassLaws.{RolePass, code-of, pass-begins, pass-ends, pass-next, owner-here}
+use Rattle.roles.proofs.RolePassLaws.{RolePass, code-of, pass-begins, pass-ends, pass-next, owner-step}
 use Rattle.roles.proofs.BindingPassLaws.{BindPass, bind-begins, bind-ends, bind-next, bindable-here}
 use Rattle.roles.proofs.discovery.discover_roles_lua51.Statement.{statement}
 use Rattle.roles.proofs.discovery.discover_roles_lua51.Tie as tie
@@ -26,12 +25,10 @@ bind-requires c κs =
     let l = q .before .before .before in
     let a = l .before .before .before .before .before .before .args in
     let pre = l .before .before .before .before .before .before .pre in
-    let owns = q .claim-of .ensures .0 ∙ ap (companionsOf (a .protos .now) (a .row)) (q .before .read-u32 .ensures) in
-    let marked = owner-marked _ _ _ _ (length (a .code .now) / 4) _ _ (omega arith) (omega (arith, pre .1 .1 .0 .1, l .loop .inv .0 .long)) (m .before .before .before .before .write-role .ensures) (m .mark .ensures) in
-    let o = owner-here _ _ _ (pre .1 .0) _ _ _ _ (l .loop .inv .0) (omega arith) (pre .1 .1 .0 .1) _ refl _ owns _ (marked .0) in
+    let step = owner-step _ _ _ (pre .1 .0) _ _ _ _ (l .loop .inv .0) (omega arith) (pre .1 .1 .0 .1) _ (q .before .read-u32 .ensures) _ (q .claim-of .ensures .0) _ _ _ (m .before .before .before .before .write-role .ensures) (m .mark .ensures) in
     let from = subst⁻¹ (BindsFrom (a .protos .now) (a .row) (a .base)) (l .loop .inv .1 .long) (pre .1 .1 .1) in (
-      (omega (arith, marked .1 .1), pre .1 .1 .0 .0, omega (arith, from .begins, from .few, records-front (rows (a .protos .now)) (suc (a .row)))),
-      bindable-here _ _ _ (code-of _ _ _ (pre .1 .0)) _ _ from _ _ _ _ o owns (marked .0),
+      (omega (arith, step .most), pre .1 .1 .0 .0, omega (arith, from .begins, from .few, records-front (rows (a .protos .now)) (suc (a .row)))),
+      bindable-here _ _ _ (code-of _ _ _ (pre .1 .0)) _ _ from _ _ _ _ _ _ step,
     )
 
 loop-again : tie.Need-loop-again Inv μ
@@ -39,13 +36,10 @@ loop-again c =
     let m = c .before .before .before .before .before .before in
     let q = m .before .before .before .before .before .before .before in
     let l = q .before .before .before in
-    let a = l .before .before .before .before .before .before .args in
     let pre = l .before .before .before .before .before .before .pre in
-    let owns = q .claim-of .ensures .0 ∙ ap (companionsOf (a .protos .now) (a .row)) (q .before .read-u32 .ensures) in
-    let marked = owner-marked _ _ _ _ (length (a .code .now) / 4) _ _ (omega arith) (omega (arith, pre .1 .1 .0 .1, l .loop .inv .0 .long)) (m .before .before .before .before .write-role .ensures) (m .mark .ensures) in
-    let o = owner-here _ _ _ (pre .1 .0) _ _ _ _ (l .loop .inv .0) (omega arith) (pre .1 .1 .0 .1) _ refl _ owns _ (marked .0) in (
-      pass-next _ _ _ (pre .1 .0) _ _ _ _ (l .loop .inv .0) (omega arith) (pre .1 .1 .0 .1) _ refl _ owns _ _ _ (q .claim-of .ensures .1) (marked .0) (marked .1 .1) (marked .1 .0),
-      bind-next _ _ _ (code-of _ _ _ (pre .1 .0)) _ _ (pre .1 .1 .1) _ _ _ _ o owns (marked .0) _ _ _ (l .loop .inv .1) (c .before .before .bind-claim .ensures),
+    let step = owner-step _ _ _ (pre .1 .0) _ _ _ _ (l .loop .inv .0) (omega arith) (pre .1 .1 .0 .1) _ (q .before .read-u32 .ensures) _ (q .claim-of .ensures .0) _ _ _ (m .before .before .before .before .write-role .ensures) (m .mark .ensures) in (
+      pass-next _ _ _ (pre .1 .0) _ _ _ _ (l .loop .inv .0) (omega arith) (pre .1 .1 .0 .1) _ (q .before .read-u32 .ensures) _ (q .claim-of .ensures .0) _ _ _ (q .claim-of .ensures .1) step,
+      bind-next _ _ _ (code-of _ _ _ (pre .1 .0)) _ _ (pre .1 .1 .1) _ _ _ _ _ _ step _ _ _ (l .loop .inv .1) (c .before .before .bind-claim .ensures),
       l .loop .inv .2,
     )
 

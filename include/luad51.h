@@ -28,7 +28,8 @@
  *             LUAD51_FIELD_OVER_LIMIT, the number of binding records for LUAD51_BUFFER_TOO_SHORT, otherwise 0
  * An accepted call writes its records to the front of its buffers and leaves what lies past them unchanged. A refused
  * call leaves its buffers untouched, except that with LUAD51_BUFFER_TOO_SHORT the role records are written, as by an
- * accepted call. So a call with an empty bindings buffer tells how many records there are.
+ * accepted call. So a call with a role buffer that fits and an empty bindings buffer tells how many binding records
+ * there are: the figure, whether it is accepted (then 0) or refused with LUAD51_BUFFER_TOO_SHORT.
  */
 #ifndef LUAD51_H
 #define LUAD51_H

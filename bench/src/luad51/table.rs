@@ -18,7 +18,8 @@ pub struct Benchmark<const N: usize> {
 /// The width of a column of times or ratios.
 const WIDTH: usize = 11;
 
-/// An odd number of turns, from 3 to 201, that takes about a second in all where one turn takes so many seconds.
+/// An odd number of turns, from 3 to 201, that takes about a second for each of our calls where one turn takes so many
+/// seconds.
 fn turns(seconds: f64) -> usize {
     (1.0 / seconds).clamp(3.0, 201.0) as usize | 1
 }

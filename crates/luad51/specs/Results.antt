@@ -17,7 +17,7 @@ unfoldable pub countResult : Answer ℕ → ℕ
 countResult (refused r) = refusedResult r
 countResult (accepted n) = packed n 0
 
--- what the header's accessors read in a result: the refusal's number
+-- what the header's accessors compute, transcribed: the refusal's number in a result
 unfoldable pub refusalIn : ℕ → ℕ
 refusalIn result = result / 2 ^ 32 % 2 ^ 8
 

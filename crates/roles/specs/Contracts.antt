@@ -42,7 +42,7 @@ refusedOf refusal.WordCountMismatch = record { number = 6; figure = 0 }
 refusedOf refusal.RoleBufferTooShort = record { number = 7; figure = 0 }
 refusedOf (refusal.BufferTooShort records) = record { number = 8; figure = records }
 
--- whether an image is refused
+-- the refusal that it stands for, if any
 unfoldable pub givenRefusal : Acceptance → Option Refused
 givenRefusal (acceptance.Refused r) = some (refusedOf r)
 givenRefusal acceptance.Accepted = none

@@ -78,7 +78,7 @@ examples =
     ∷ example (row 0 1 0 0 2 ++ row 1 2 0 0 2) (0x0080001e ∷ 0x00800022 ∷ 0x00000007 ∷ []) (instruction ++ instruction ++ extra 0) []
     ∷ []
 
--- ---- refusals, of the bindings call, which has all eight
+-- ---- refusals, of the bindings call, which has all eight (3 is not in the table; tests/answers/large.txt has it)
 
 -- a table and words as bytes, the lengths of the two buffers, and the refusal
 pub record RefusalExample : Type 0 where
@@ -100,7 +100,7 @@ judged rows words roleLength bindingLength expected =
 -- the table of refusals
 unfoldable pub refusals : List RefusalExample
 refusals =
-    -- an exact fit, and one byte less in either buffer: 7 before 8, and 8 tells the records needed
+    -- an exact fit, and one byte less in the bindings buffer, and in both: 7 before 8, and 8 tells the records needed
     judged (row 0 1 0 0 2 ++ row 1 0 0 2 2) (0x0080001e ∷ []) 8 24 none
     ∷ judged (row 0 1 0 0 2 ++ row 1 0 0 2 2) (0x0080001e ∷ []) 8 23 (refuse 8 2)
     ∷ judged (row 0 1 0 0 2 ++ row 1 0 0 2 2) (0x0080001e ∷ []) 7 23 (refuse 7 0)

@@ -77,7 +77,7 @@ companions p pc = existing p pc (owned p pc)
 unfoldable pub isTruncated : Proto → ℕ → Bool
 isTruncated p pc = ltb (companions p pc) (owned p pc)
 
--- in how many of these a CLOSURE at pc binds an upvalue of its child
+-- how many binding words follow the executable CLOSURE at pc, as far as they exist, whatever their opcodes; 0 at other words
 unfoldable pub bindingWords : Proto → ℕ → ℕ
 bindingWords p pc = cond (executableAt p pc) (existing p pc (bindingCount p (wordAt p pc))) 0
 

@@ -63,7 +63,7 @@ pub fn write_bindings(protos: &[u8], words: &[u8], roles: &mut [u8], bindings: &
     Answer::Records(count)
 }
 
-// Refusal 8, for so many records.
+// Refusal 8, for so many records: the roles are written all the same.
 fn refuse_short(protos: &[u8], words: &[u8], out: &mut [u8], records: u32) -> Answer
     requires { ⌜ rolesRefusal (now protos) (now words) (length (now out)) ≡ none ⌝ }
     ensures { λ r. ⌜ r ≡ Refused (BufferTooShort records) ⌝ }
@@ -102,7 +102,7 @@ fn fill_rows(protos: &[u8], words: &[u8], roles: &mut [u8], bindings: &mut [u8])
     }
 }
 
-// The words of a row, from `first` to `next`, and their part of the role buffer. The binding records of the rows after it begin with `base`.
+// The words of a row, from `first` to `next`, and their part of the role buffer. The binding records of the rows after it begin at index `base`.
 fn fill_row(
     protos: &[u8],
     words: &[u8],

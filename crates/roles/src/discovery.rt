@@ -44,7 +44,7 @@ pub struct Claim {
 }
 
 // Writes the roles of a row's words to the front of its part of the role buffer, and binds the upvalues of its children; the binding records
-// of the rows after it begin with `base`. Each word is looked at once: an owner marks its companions, as far as they exist, a CLOSURE lets
+// of the rows after it begin at index `base`. Each word is read at most once: an owner marks its companions, as far as they exist, a CLOSURE lets
 // them bind, and the next word to be looked at is the one after them.
 pub fn discover_roles_lua51(
     protos: &[u8],

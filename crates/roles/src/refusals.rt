@@ -40,7 +40,7 @@ pub enum Refusal {
     BufferTooShort(u32),
 }
 
-// Whether an image is refused.
+// The refusal that applies, or none.
 pub enum Acceptance {
     Refused(Refusal),
     Accepted,

@@ -110,13 +110,23 @@ u32Record-append : (ms ns : List ℕ) → u32Record (ms ++ ns) ≡ u32Record ms 
 unfolding u32Record
 u32Record-append ms ns = flatMap-append u32Bytes ms ns
 
--- the fields of values, one value after the other
-pub i32Record-append : {A : Type 0} (f : A → List ℤ) (xs ys : List A) → i32Record (flatMap f (xs ++ ys)) ≡ i32Record (flatMap f xs) ++ i32Record (flatMap f ys)
-unfolding i32Record
-i32Record-append f xs ys =
-    ap (λ l. u32Record (map i32Bits l)) (flatMap-append f xs ys)
-    ∙ ap u32Record (map-append i32Bits (flatMap f xs) (flatMap f ys))
-    ∙ u32Record-append (map i32Bits (flatMap f xs)) (map i32Bits (flatMap f ys))
+-- records of values, one value after the other, where f has the fields of one
+module _ {A : Type 0} (f : A → List ℤ) where
+  pub i32Record-append : (xs ys : List A) → i32Record (flatMap f (xs ++ ys)) ≡ i32Record (flatMap f xs) ++ i32Record (flatMap f ys)
+  unfolding i32Record
+  i32Record-append xs ys =
+      ap (λ l. u32Record (map i32Bits l)) (flatMap-append f xs ys)
+      ∙ ap u32Record (map-append i32Bits (flatMap f xs) (flatMap f ys))
+      ∙ u32Record-append (map i32Bits (flatMap f xs)) (map i32Bits (flatMap f ys))
+
+  -- a buffer with some, and more written right after them
+  pub i32Record-next : (old m new : List ℕ) (at to : ℕ) (xs ys : List A) → to ≡ at + length (i32Record (flatMap f xs)) → at + length (i32Record (flatMap f xs)) + length (i32Record (flatMap f ys)) ≤ length old
+      → m ≡ overwrite old at (i32Record (flatMap f xs)) → new ≡ overwrite m to (i32Record (flatMap f ys)) → new ≡ overwrite old at (i32Record (flatMap f (xs ++ ys)))
+  i32Record-next old m new at to xs ys start room e d =
+      d
+      ∙ ap₂ (λ (l : List ℕ) (n : ℕ). overwrite l n (i32Record (flatMap f ys))) e start
+      ∙ overwrite-next old at (i32Record (flatMap f xs)) (i32Record (flatMap f ys)) room
+      ∙ ap (overwrite old at) (sym (i32Record-append xs ys))
 
 u32Record-snoc : (ns : List ℕ) (n : ℕ) → u32Record (ns ++ (n ∷ [])) ≡ u32Record ns ++ u32Bytes n
 unfolding u32Record flatMap

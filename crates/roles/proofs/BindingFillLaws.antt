@@ -21,7 +21,7 @@ use Rattle.opcodes.proofs.AllLaws.{all-flatMap, all-map, all-of, all-imp, all-u
 use Rattle.opcodes.proofs.TestLaws.{by-cond}
 use Rattle.opcodes.proofs.ByteLaws.{overwrite-front, overwrite-whole}
 use Rattle.opcodes.proofs.PartLaws.{paste-part}
-use Rattle.roles.proofs.TableLaws.{length-rows, getD-rows, drop-rows}
+use Rattle.roles.proofs.TableLaws.{drop-rows}
 use Rattle.roles.proofs.TotalLaws.{words-next, records-next, records-most}
 use Rattle.roles.proofs.RowCheckLaws.{rows-end}
 use Rattle.roles.proofs.RefusalLaws.{roles-kept}
@@ -141,8 +141,7 @@ module _ (table words old first : List ℕ) (room : bindingBytes * bindingTotal 
   bind-next out row v there =
       let ws = wordsOf table words row in
       let vs = writes (protoIn table row ws) in
-      let n = words-next (rows table) row (rowAt table row) (omega (arith, length-rows table)) ∙ ap (λ (r : Row). wordTotal (take row (rows table)) + r .words) (getD-rows table row (rowAt table row) there) in
-      let words-left : wordsOf table words (suc row) ≡ drop (rowAt table row .words) ws = ap (λ (k : ℕ). drop k words) n ∙ sym (drop-drop (rowAt table row .words) (wordTotal (take row (rows table))) words) in
+      let words-left : wordsOf table words (suc row) ≡ drop (rowAt table row .words) ws = ap (λ (k : ℕ). drop k words) (words-next table row there) ∙ sym (drop-drop (rowAt table row .words) (wordTotal (take row (rows table))) words) in
       record {
         made = foldl (setIn table row) (v .made) vs;
         size = length-writes (rows table) (λ w. childOfRow table row (w .child)) vs (v .made) ∙ v .size;
@@ -194,9 +193,7 @@ module _ (table words old : List ℕ) where
     module _ (there : row < length table / rowBytes) (u : ℕ) (own : u ≡ fieldAt table row 3) where
       pub base-next : base + u ≡ firstBinding (rows table) (suc row)
       unfolding rowAt
-      base-next =
-          let r : getD (rows table) row (rowAt table row) .upvalues ≡ u = ap (λ (x : Row). x .upvalues) (getD-rows table row (rowAt table row) there) ∙ sym own in
-          omega (arith, records-next (rows table) row (rowAt table row) (omega (arith, length-rows table)), v .before)
+      base-next = let r : rowAt table row .upvalues ≡ u = sym own in omega (arith, records-next table row there, v .before)
 
       pub binds-from : bindingTotal (rows table) ≤ maxBindings → RoomForAllOrNone table (length old) → BindsFrom table row (base + u) (length out)
       binds-from few fits =

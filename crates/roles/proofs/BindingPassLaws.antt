@@ -22,7 +22,7 @@ use Rattle.opcodes.proofs.ListLaws.{upFrom-append, flatMap-append, foldl-flatMa
 use Rattle.opcodes.proofs.AllLaws.{flatMap-none, all-upFrom}
 use Rattle.opcodes.proofs.TestLaws.{T-true}
 use Rattle.opcodes.proofs.ByteLaws.{length-u32s, length-overwrite}
-use Rattle.roles.proofs.TableLaws.{length-rows, getD-rows, child-upvalues}
+use Rattle.roles.proofs.TableLaws.{child-upvalues}
 use Rattle.roles.proofs.TotalLaws.{records-front, records-next, between-first}
 use Rattle.roles.proofs.SearchLaws.{found, no-upvalues}
 use Rattle.roles.proofs.RoleLaws.{companion-unexecutable}
@@ -41,11 +41,9 @@ pub child-records : (table : List ℕ) (row k : ℕ) (c : Row) → childOfRow ta
 unfolding childOfRow protoIn
 child-records table row k c e =
     let v = found (length table / rowBytes) table (rowAt table row .depth) (suc row) k c (omega arith) e in
-    let here : getD (rows table) (c .row) c ≡ c = getD-rows table (c .row) c (v .there) ∙ sym (v .same) in
-    let next = records-next (rows table) (c .row) c (omega (arith, length-rows table, v .there)) in
     record {
       begin = between-first table (suc row) (c .row) (v .after);
-      inside = omega (arith, next, ap (λ (r : Row). r .upvalues) here, records-front (rows table) (suc (c .row)));
+      inside = omega (arith, records-next table (c .row) (v .there), ap (λ (r : Row). r .upvalues) (v .same), records-front (rows table) (suc (c .row)));
       upvalues = child-upvalues (rowAt table row) (drop (suc row) (rows table)) [] k c e;
     }
 

@@ -17,7 +17,7 @@ use Rattle.roles.specs.BindingSteps.{setRecord, boundBy, boundFrom, boun
 use Rattle.roles.specs.declared.discovery.Companions.{Companions}
 use Rattle.roles.specs.declared.discovery.Companions.the-variants.{None, Bindings, Extra}
 use Rattle.opcodes.proofs.ListLaws.{length-flatMap, foldl-next}
-use Rattle.opcodes.proofs.ByteLaws.{length-i32Record, i32Record-append, length-overwrite, overwrite-none, overwrite-unfit, overwrite-next}
+use Rattle.opcodes.proofs.ByteLaws.{length-i32Record, i32Record-append, i32Record-next, length-overwrite, overwrite-none, overwrite-unfit}
 use Rattle.opcodes.proofs.PartLaws.{paste-part, by-part}
 use Rattle.roles.proofs.OwnerLaws.{has-opcode, has-other}
 
@@ -42,15 +42,13 @@ unbound-none old = sym (overwrite-none old 0)
 
 pub unbound-next : (old m new : List ℕ) (i : ℕ) → bindingBytes * i + bindingBytes ≤ length old → m ≡ overwrite old 0 (bindingRecords (replicate i unbound))
     → new ≡ overwrite m (bindingBytes * i) (u32Record (0 ∷ 0 ∷ 0xffff_ffff ∷ [])) → new ≡ overwrite old 0 (bindingRecords (replicate (i + 1) unbound))
-unfolding unbound i32Bits
+unfolding unbound i32Bits bindingRecords
 unbound-next old m new i room e d =
     let us = replicate i unbound in
-    let size : bindingBytes * i ≡ 0 + length (bindingRecords us) = omega (arith, length-bindings us, length-replicate i unbound) in
-    d
-    ∙ ap (overwrite m (bindingBytes * i)) (sym (one-binding unbound))
-    ∙ ap₂ (λ (l : List ℕ) (n : ℕ). overwrite l n (bindingRecords (unbound ∷ []))) e size
-    ∙ overwrite-next old 0 (bindingRecords us) (bindingRecords (unbound ∷ [])) (omega (arith, length-bindings us, length-replicate i unbound, length-bindings (unbound ∷ [])))
-    ∙ ap (overwrite old 0) (sym (ap bindingRecords (sym (replicate-append-replicate i 1 unbound)) ∙ bindings-append us (unbound ∷ [])))
+    let size : length (bindingRecords us) ≡ bindingBytes * i = length-bindings us ∙ ap (λ (n : ℕ). bindingBytes * n) (length-replicate i unbound) in
+    i32Record-next bindingFields old m new 0 (bindingBytes * i) us (unbound ∷ []) (omega (arith, size)) (omega (arith, size, length-bindings (unbound ∷ []))) e
+    (d ∙ ap (overwrite m (bindingBytes * i)) (sym (one-binding unbound)))
+    ∙ ap (λ (bs : List Binding). overwrite old 0 (bindingRecords bs)) (replicate-append-replicate i 1 unbound)
 
 -- ---- a binding word
 

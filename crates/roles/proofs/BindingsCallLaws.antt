@@ -2,13 +2,12 @@
 use Prim.Native.Nat.{ℕ, _*_, _/_, _≤_, _<_}
 use native.Mathlib.Omega.{arith}
 use mathlib.Core.Path.{_≡_, refl, sym, _∙_, ap}
-use mathlib.Core.List.{List, [], _∷_, flatMap}
-use mathlib.Core.Option.{Option, none, some}
+use mathlib.Core.List.{List, [], _∷_}
+use mathlib.Core.Option.{Option, none}
 use lib.ListN.{length, drop, replicate, length-replicate}
 use borrow.Author.Tests.{lt-ltb, le-ltb}
 use Rattle.opcodes.specs.Bytes.{u32s, overwrite}
-use Rattle.roles.specs.Table.{Row, rowBytes, rows, protos, protoOf, childAt}
-use Rattle.roles.specs.Roles.{roles, recordsOf}
+use Rattle.roles.specs.Table.{Row, rowBytes, rows, protoOf, childAt}
 use Rattle.roles.specs.Bindings.{Binding, unbound, writes, bindingTotal, bindRows, bindings, bindingBytes, bindingRecords}
 use Rattle.roles.specs.Refusals.{Refused, refuse, refuseIf, orElse, rolesRefusal, tooShort}
 use Rattle.roles.specs.Calls.{answer, filled, rolesAfter, imageBindings, bindingsRefusal, bindingsAnswer, bindingsAfter}
@@ -20,7 +19,8 @@ use Rattle.roles.specs.declared.refusals.Acceptance.{Acceptance}
 use Rattle.roles.specs.declared.refusals.Acceptance.the-variants as acceptance
 use Rattle.roles.specs.declared.calls.Answer.the-variants as answered
 use Rattle.roles.proofs.TotalLaws.{record-fields}
-use Rattle.roles.proofs.RolesCallLaws.{not-refused}
+use Rattle.roles.proofs.UntouchedLaws.{refused-leaves, bindings-untouched}
+use Rattle.roles.proofs.RolesCallLaws.{refused-by, not-refused, refused-call as refused-roles}
 use Rattle.roles.proofs.BindingFillLaws.{length-writes, few-records, rows-bound}
 
 -- ---- there is a record for each upvalue
@@ -42,16 +42,11 @@ module _ (table words roleBuffer bindingBuffer : List ℕ) (a : Acceptance) (jud
   pub refused-call : (r : Refusal) → a ≡ acceptance.Refused r
       → (answerOf (answered.Refused r) ≡ bindingsAnswer table words (length roleBuffer) (length bindingBuffer))
       × ((roleBuffer ≡ rolesAfter table words roleBuffer) × (bindingBuffer ≡ bindingsAfter table words (length roleBuffer) bindingBuffer))
-  unfolding givenRefusal answerOf bindingsAnswer rolesAfter bindingsAfter bindingsRefusal answer filled orElse
+  unfolding answerOf bindingsAnswer bindingsRefusal answer orElse
   refused-call r e =
-      let o : some (refusedOf r) ≡ rolesRefusal table words (length roleBuffer) = sym (ap givenRefusal e) ∙ judged in
-      let short = tooShort (length (imageBindings table words)) bindingBytes (length bindingBuffer) in (
-        ap (λ (x : Option Refused). answer (orElse x short) (length (imageBindings table words))) o,
-        (
-          ap (λ (x : Option Refused). filled x roleBuffer (recordsOf (flatMap roles (protos table words)))) o,
-          ap (λ (x : Option Refused). filled (orElse x short) bindingBuffer (bindingRecords (imageBindings table words))) o,
-        ),
-      )
+      let short = tooShort (length (imageBindings table words)) bindingBytes (length bindingBuffer) in
+      let o = ap (λ (x : Option Refused). answer (orElse x short) (length (imageBindings table words))) (refused-by table words roleBuffer a judged r e) in
+      (o, (refused-roles table words roleBuffer a judged r e .1, sym (bindings-untouched table words roleBuffer bindingBuffer (refusedOf r) (sym o) .0)))
 
 -- ---- 8, and an accepted call
 
@@ -90,11 +85,10 @@ module _ (table words : List ℕ) (roleLength : ℕ) (bindingBuffer : List ℕ) 
 
   pub short-call : length bindingBuffer / bindingBytes < n
       → (answerOf (answered.Refused (refusal.BufferTooShort n)) ≡ bindingsAnswer table words roleLength (length bindingBuffer)) × (bindingBuffer ≡ bindingsAfter table words roleLength bindingBuffer)
-  unfolding answerOf refusedOf bindingsAnswer bindingsAfter answer filled refuse
-  short-call h = (
-    sym (ap (λ (x : Option Refused). answer x (length (imageBindings table words))) (short h)),
-    sym (ap (λ (x : Option Refused). filled x bindingBuffer (bindingRecords (imageBindings table words))) (short h)),
-  )
+  unfolding answerOf refusedOf bindingsAnswer bindingsAfter answer refuse
+  short-call h =
+      let o = ap (λ (x : Option Refused). answer x (length (imageBindings table words))) (short h) in
+      (sym o, sym (refused-leaves (bindingsRefusal table words roleLength (length bindingBuffer)) _ (refusedOf (refusal.BufferTooShort n)) bindingBuffer _ o))
 
   -- the records that bind nothing are written first, and bound row by row
   pub accepted-call : (first new : List ℕ) → n ≤ length bindingBuffer / bindingBytes → first ≡ overwrite bindingBuffer 0 (bindingRecords (replicate n unbound))

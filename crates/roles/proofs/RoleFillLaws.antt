@@ -6,7 +6,7 @@ use native.Mathlib.Omega.{arith}
 use mathlib.Core.Path.{_≡_, refl, sym, _∙_, ap, ap₂}
 use mathlib.Core.List.{List, [], _∷_, _++_, append-nil, flatMap}
 use mathlib.Core.Option.{Option, none}
-use lib.ListN.{length, getD, take, drop, length-take, length-drop}
+use lib.ListN.{length, take, drop, length-take, length-drop}
 use lib.Seq.{take-all, take-take, drop-drop, length-take-le}
 use Rattle.opcodes.specs.Bytes.{u32s, overwrite}
 use Rattle.roles.specs.Table.{Row, rowBytes, fieldAt, rowAt, rows, Proto, protoOf, protosOf, protos}
@@ -17,7 +17,7 @@ use Rattle.roles.specs.Contracts.{protoIn}
 use Rattle.opcodes.proofs.ListLaws.{flatMap-append}
 use Rattle.opcodes.proofs.ByteLaws.{length-u32s, length-overwrite}
 use Rattle.opcodes.proofs.PartLaws.{u32s-part, paste}
-use Rattle.roles.proofs.TableLaws.{length-rows, getD-rows, drop-rows, length-protosOf}
+use Rattle.roles.proofs.TableLaws.{length-rows, drop-rows, length-protosOf}
 use Rattle.roles.proofs.TotalLaws.{words-front, words-next}
 use Rattle.roles.proofs.RefusalLaws.{ImageKept, roles-kept}
 use Rattle.roles.proofs.RoleBufferLaws.{length-roles, wordsBefore, words-before}
@@ -109,10 +109,7 @@ module _ (table words old : List ℕ) (accepted : rolesRefusal table words (leng
 
       -- the row's words and its part of the buffer are there
       next : first + n ≡ wordTotal (take (suc row) (rows table))
-      next =
-          let e = words-next (rows table) row (rowAt table row) (omega (arith, length-rows table)) in
-          let r : getD (rows table) row (rowAt table row) .words ≡ n = ap (λ (x : Row). x .words) (getD-rows table row (rowAt table row) there) ∙ words-of in
-          omega (arith, v .before)
+      next = omega (arith, words-next table row there, words-of, v .before)
 
       pub rows-there : (rowBytes * row + rowBytes ≤ length table) × (length table / rowBytes ≤ 16384)
       rows-there = (omega arith, omega (arith, kept .row-limit, length-rows table))

@@ -2,7 +2,7 @@
 use Prim.Native.Nat.{ℕ, _+_, _-_, _*_, _≤_, _<_}
 use native.Mathlib.Numerals.{add-one}
 use native.Mathlib.Omega.{arith}
-use mathlib.Core.Path.{_≡_, refl, sym, _∙_, ap, ap₂}
+use mathlib.Core.Path.{_≡_, refl, sym, _∙_, ap}
 use mathlib.Core.List.{List, [], _∷_, _++_, flatMap}
 use lib.ListN.{length, take, length-take}
 use lib.Seq.{take-all, take-nil}
@@ -13,7 +13,7 @@ use Rattle.roles.specs.Contracts.{ownerField, indexField, claimedRoles}
 use Rattle.roles.specs.declared.discovery.Companions.{Companions}
 use Rattle.roles.specs.declared.discovery.Companions.the-variants.{None, Bindings, Extra}
 use Rattle.opcodes.proofs.ListLaws.{length-flatMap, length-tabulate, tabulate-next, take-tabulate}
-use Rattle.opcodes.proofs.ByteLaws.{length-i32Record, i32Record-append, overwrite-none, overwrite-next}
+use Rattle.opcodes.proofs.ByteLaws.{length-i32Record, i32Record-next, overwrite-none}
 use Rattle.roles.proofs.RoleBufferLaws.{length-roleFields}
 
 -- a role's record has its two fields
@@ -27,10 +27,6 @@ pub length-records : (rs : List Role) → length (recordsOf rs) ≡ roleBytes * 
 unfolding recordsOf
 length-records rs = length-i32Record (flatMap roleFields rs) ∙ omega (arith, length-flatMap roleFields 2 length-roleFields rs)
 
-records-append : (rs ss : List Role) → recordsOf (rs ++ ss) ≡ recordsOf rs ++ recordsOf ss
-unfolding recordsOf
-records-append rs ss = i32Record-append roleFields rs ss
-
 pub records-none : (old : List ℕ) (at : ℕ) → old ≡ overwrite old at (recordsOf [])
 unfolding recordsOf i32Record u32Record flatMap
 records-none old at = sym (overwrite-none old at)
@@ -38,12 +34,9 @@ records-none old at = sym (overwrite-none old at)
 -- a buffer with some roles, and more written after them
 pub records-next : (old m new : List ℕ) (at to : ℕ) (rs ss : List Role) → to ≡ at + roleBytes * length rs → at + roleBytes * (length rs + length ss) ≤ length old
     → m ≡ overwrite old at (recordsOf rs) → new ≡ overwrite m to (recordsOf ss) → new ≡ overwrite old at (recordsOf (rs ++ ss))
+unfolding recordsOf
 records-next old m new at to rs ss start room e d =
-    let size : to ≡ at + length (recordsOf rs) = omega (arith, length-records rs) in
-    d
-    ∙ ap₂ (λ (l : List ℕ) (n : ℕ). overwrite l n (recordsOf ss)) e size
-    ∙ overwrite-next old at (recordsOf rs) (recordsOf ss) (omega (arith, length-records rs, length-records ss))
-    ∙ ap (overwrite old at) (sym (records-append rs ss))
+    i32Record-next roleFields old m new at to rs ss (omega (arith, length-records rs)) (omega (arith, length-records rs, length-records ss)) e d
 
 -- ---- the companions of an owner, as far as they exist
 

@@ -2,30 +2,32 @@
 use Prim.Native.Nat.{ℕ, _/_, _≤_}
 use native.Mathlib.Omega.{arith}
 use mathlib.Core.Path.{_≡_, sym, _∙_, ap}
-use mathlib.Core.List.{List, flatMap}
-use mathlib.Core.Option.{Option, none}
+use mathlib.Core.List.{List}
+use mathlib.Core.Option.{Option, none, some}
 use lib.ListN.{length}
-use Rattle.roles.specs.Table.{rowBytes, rows, protos}
-use Rattle.roles.specs.Roles.{roles, recordsOf}
+use Rattle.roles.specs.Table.{rowBytes, rows}
 use Rattle.roles.specs.Refusals.{Refused, maxRows, wordTotal, rolesRefusal}
-use Rattle.roles.specs.Calls.{answer, filled, rolesAnswer, rolesAfter}
-use Rattle.roles.specs.Contracts.{givenRefusal, answerOf}
+use Rattle.roles.specs.Calls.{answer, rolesAnswer, rolesAfter}
+use Rattle.roles.specs.Contracts.{refusedOf, givenRefusal, answerOf}
 use Rattle.roles.specs.declared.refusals.Refusal.{Refusal}
 use Rattle.roles.specs.declared.refusals.Acceptance.{Acceptance}
 use Rattle.roles.specs.declared.refusals.Acceptance.the-variants as acceptance
 use Rattle.roles.specs.declared.calls.Answer.the-variants as answered
 use Rattle.roles.proofs.TableLaws.{length-rows}
 use Rattle.roles.proofs.RefusalLaws.{ImageKept, roles-kept}
+use Rattle.roles.proofs.UntouchedLaws.{roles-untouched}
 
 module _ (table words roleBuffer : List ℕ) (a : Acceptance) (judged : givenRefusal a ≡ rolesRefusal table words (length roleBuffer)) where
+  pub refused-by : (r : Refusal) → a ≡ acceptance.Refused r → some (refusedOf r) ≡ rolesRefusal table words (length roleBuffer)
+  unfolding givenRefusal
+  refused-by r e = sym (ap givenRefusal e) ∙ judged
+
   -- a refused call answers so and writes nothing
   pub refused-call : (r : Refusal) → a ≡ acceptance.Refused r → (answerOf (answered.Refused r) ≡ rolesAnswer table words (length roleBuffer)) × (roleBuffer ≡ rolesAfter table words roleBuffer)
-  unfolding givenRefusal answerOf rolesAnswer rolesAfter answer filled
+  unfolding answerOf rolesAnswer answer
   refused-call r e =
-      let o : givenRefusal (acceptance.Refused r) ≡ rolesRefusal table words (length roleBuffer) = sym (ap givenRefusal e) ∙ judged in (
-        ap (λ (x : Option Refused). answer x (wordTotal (rows table))) o,
-        ap (λ (x : Option Refused). filled x roleBuffer (recordsOf (flatMap roles (protos table words)))) o,
-      )
+      let o = ap (λ (x : Option Refused). answer x (wordTotal (rows table))) (refused-by r e) in
+      (o, sym (roles-untouched table words roleBuffer (refusedOf r) (sym o)))
 
 pub not-refused : (table words : List ℕ) (room : ℕ) (a : Acceptance) → givenRefusal a ≡ rolesRefusal table words room → a ≡ acceptance.Accepted → rolesRefusal table words room ≡ none
 unfolding givenRefusal

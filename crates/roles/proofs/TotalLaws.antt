@@ -3,7 +3,7 @@ use Prim.Native.Nat.{ℕ, zero, suc, _+_, _-_, _*_, _/_, _%_, _^_, _≤_, _<_}
 use native.Mathlib.Nat.{mul-suc}
 use native.Mathlib.Omega.{arith}
 use mathlib.Core.Path.{_≡_, refl, sym, _∙_, ap, ap₂}
-use mathlib.Core.List.{List, [], _∷_, _++_, map}
+use mathlib.Core.List.{List, [], _∷_, _++_, map, map-append}
 use lib.ListN.{length, getD, take, drop}
 use lib.Seq.{take-add, drop-drop}
 use Rattle.opcodes.specs.Lists.{All, all-nil, all-cons, upFrom, tabulate, total}
@@ -12,7 +12,7 @@ use Rattle.roles.specs.Refusals.{wordTotal}
 use Rattle.roles.specs.Bindings.{bindingTotal, firstBinding}
 use Rattle.roles.specs.Contracts.{fieldTotal, recordsBetween}
 use Rattle.opcodes.proofs.ListLaws.{tabulate-next}
-use Rattle.roles.proofs.TableLaws.{drop-rows}
+use Rattle.roles.proofs.TableLaws.{length-rows, getD-rows, drop-rows}
 
 total-append : (ms ns : List ℕ) → total (ms ++ ns) ≡ total ms + total ns
 total-append [] ns = omega arith
@@ -36,9 +36,14 @@ module _ (get : Row → ℕ) where
   sum-next (r ∷ rs) zero d h = omega arith
   sum-next (r ∷ rs) (suc k) d h = omega (arith, sum-next rs k d (omega arith))
 
+  -- of a table
+  sum-row : (table : List ℕ) (row : ℕ) → row < length table / rowBytes → sum (take (suc row) (rows table)) ≡ sum (take row (rows table)) + get (rowAt table row)
+  sum-row table row there =
+      sum-next (rows table) row (rowAt table row) (omega (arith, length-rows table))
+      ∙ ap (λ (r : Row). sum (take row (rows table)) + get r) (getD-rows table row (rowAt table row) there)
+
   sum-append : (rs ss : List Row) → sum (rs ++ ss) ≡ sum rs + sum ss
-  sum-append [] ss = omega arith
-  sum-append (r ∷ rs) ss = omega (arith, sum-append rs ss)
+  sum-append rs ss = ap total (map-append get rs ss) ∙ total-append (map get rs) (map get ss)
 
   sum-most : (limit : ℕ) {rs : List Row} → All (λ (r : Row). get r ≤ limit) rs → sum rs ≤ limit * length rs
   sum-most limit all-nil = omega arith
@@ -59,9 +64,9 @@ pub words-front : (rs : List Row) (k : ℕ) → wordTotal (take k rs) ≤ wordTo
 unfolding wordTotal
 words-front = sum-front (λ r. r .words)
 
-pub words-next : (rs : List Row) (k : ℕ) (d : Row) → k < length rs → wordTotal (take (suc k) rs) ≡ wordTotal (take k rs) + getD rs k d .words
+pub words-next : (table : List ℕ) (row : ℕ) → row < length table / rowBytes → wordTotal (take (suc row) (rows table)) ≡ wordTotal (take row (rows table)) + rowAt table row .words
 unfolding wordTotal
-words-next = sum-next (λ r. r .words)
+words-next = sum-row (λ r. r .words)
 
 pub word-fields : (table : List ℕ) → wordTotal (rows table) ≡ fieldTotal table 1
 unfolding wordTotal rowAt
@@ -73,9 +78,9 @@ pub records-front : (rs : List Row) (k : ℕ) → firstBinding rs k ≤ bindingT
 unfolding firstBinding bindingTotal
 records-front = sum-front (λ r. r .upvalues)
 
-pub records-next : (rs : List Row) (k : ℕ) (d : Row) → k < length rs → firstBinding rs (suc k) ≡ firstBinding rs k + getD rs k d .upvalues
+pub records-next : (table : List ℕ) (row : ℕ) → row < length table / rowBytes → firstBinding (rows table) (suc row) ≡ firstBinding (rows table) row + rowAt table row .upvalues
 unfolding firstBinding bindingTotal
-records-next = sum-next (λ r. r .upvalues)
+records-next = sum-row (λ r. r .upvalues)
 
 pub records-most : (limit : ℕ) {rs : List Row} → All (λ (r : Row). r .upvalues ≤ limit) rs → bindingTotal rs ≤ limit * length rs
 unfolding bindingTotal

@@ -4,5 +4,5 @@ pub mod calls;
 mod discovery;
 pub mod refusals;
 pub mod role;
-pub mod search;
+mod search;
 pub mod table;

@@ -158,7 +158,7 @@ fn fields_fit(protos: &[u8], row: usize) -> bool
 }
 
 // The sum of a field over the rows. Each is less than 2^32, so that it fits.
-pub fn field_total(protos: &[u8], k: usize) -> u64
+pub(crate) fn field_total(protos: &[u8], k: usize) -> u64
     requires { ⌜ (length (now protos) / rowBytes ≤ maxRows) × (k < rowFields) ⌝ }
     ensures { λ r. ⌜ r ≡ fieldTotal (now (protos .entry)) k ⌝ }
     ensures { λ r. ⌜ r ≤ 2 ^ 46 ⌝ }

@@ -13,7 +13,7 @@ ghost use Rattle.roles.specs.Roles.{recordsOf, roleBytes};
 pub const ROLE_BYTES: usize = 8;
 
 // The bits of -1: no owner, no index; of a binding, no pc.
-pub const NONE: u32 = 0xffff_ffff;
+pub(crate) const NONE: u32 = 0xffff_ffff;
 
 // An executable word; a CLOSURE's binding word, with its pc and the upvalue's index; a SETLIST's extra word, with its pc.
 pub enum Lua51PhysicalRole {
@@ -65,7 +65,7 @@ pub fn role_at(roles: &[u8], pc: usize) -> Lua51PhysicalRole
 }
 
 // Writes the record of the word at pc.
-pub fn write_role(roles: &mut [u8], pc: usize, role: Lua51PhysicalRole)
+pub(crate) fn write_role(roles: &mut [u8], pc: usize, role: Lua51PhysicalRole)
     requires { ⌜ roleBytes * pc + roleBytes ≤ length (now roles) ⌝ }
     ensures { λ _. ⌜ now (roles .exit) ≡ overwrite (now (roles .entry)) (roleBytes * pc) (recordsOf (roleOf role ∷ [])) ⌝ }
 {

@@ -28,7 +28,7 @@ pub enum Child {
 }
 
 // Field k of a row.
-pub fn field(protos: &[u8], row: usize, k: usize) -> u32
+pub(crate) fn field(protos: &[u8], row: usize, k: usize) -> u32
     requires { ⌜ (rowBytes * row + rowBytes ≤ length (now protos)) × (k < rowFields) ⌝ }
     ensures { λ r. ⌜ r ≡ fieldAt (now (protos .entry)) row k ⌝ }
 {

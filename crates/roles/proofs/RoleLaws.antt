@@ -3,7 +3,7 @@ use Prim.Native.Nat.{ℕ, zero, suc, _+_, _<_}
 use native.Mathlib.Nat.{not-suc-le-zero, le-of-suc-le-suc, add-zero, add-suc, zero-add, suc-add}
 use native.Mathlib.Numerals.{add-one}
 use mathlib.Core.Path.{_≡_, refl, sym, _∙_, subst, ap, ap₂}
-use mathlib.Core.Bool.{Bool, true, false, not, _&&_}
+use mathlib.Core.Bool.{Bool, true, false, not, _&&_, and-false}
 use mathlib.Core.List.{List, [], _∷_, map}
 use lib.ListN.{length, getD, drop, set, length-drop}
 use lib.Seq.{getD-drop}
@@ -126,10 +126,6 @@ owned-role p pc j x h =
     ∙ ap (λ (l : List Role). getD l j Instruction) (roles-after p pc x)
     ∙ claimed-role p (pc + 1) (claims p pc (wordAt p pc)) (drop (pc + 1) (p .code)) j (omega (arith, owned-count p pc x)) (omega (arith, length-drop (pc + 1) (p .code)))
 
-and-false : (a b : Bool) → b ≡ false → a && b ≡ false
-and-false true b e = e
-and-false false b e = refl
-
 -- so that none of them is executable
 pub companion-unexecutable : (p : Proto) (pc j : ℕ) → Executable p pc → j < companions p pc → executableAt p (pc + 1 + j) ≡ false
 unfolding executableAt companions existing
@@ -137,7 +133,7 @@ companion-unexecutable p pc j x h =
     let cs = claims p pc (wordAt p pc) in
     let mine = all-at j Instruction (omega (arith, owned-count p pc x)) (claims-companions p pc (wordAt p pc)) in
     let no : isExecutable (roleAt p (pc + 1 + j)) ≡ false = ap isExecutable (owned-role p pc j x h) ∙ T-false (isExecutable (getD cs j Instruction)) mine in
-    and-false (ltb (pc + 1 + j) (length (p .code))) (isExecutable (roleAt p (pc + 1 + j))) no
+    ap (λ (b : Bool). ltb (pc + 1 + j) (length (p .code)) && b) no ∙ and-false (ltb (pc + 1 + j) (length (p .code)))
 
 -- other bits in a companion change no role: it is never read as an owner
 pub companion-unread : (p : Proto) (pc : ℕ) (claimed : List Role) (ws : List ℕ) (k w : ℕ) → T (not (isExecutable (getD (rolesFrom p pc claimed ws) k Instruction)))

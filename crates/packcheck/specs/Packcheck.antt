@@ -6,9 +6,9 @@ use mathlib.Core.List.{List, [], _∷_, flatMap, flatten}
 use lib.ListN.{getD}
 use Rattle.roles.specs.Refusals.{Refused}
 use Rattle.roles.specs.Calls.{Answer, refused, accepted}
-use Rattle.validator.specs.Walk.{Verdict, ValidForParser, Incomplete, Invalid, RowDiagnostic}
-use Rattle.validator.specs.Image.{Image, diagnostics}
-use Rattle.validator.specs.Check.{Checked, checkAnswer}
+use Rattle.verdict.specs.Walk.{Verdict, ValidForParser, Incomplete, Invalid, RowDiagnostic}
+use Rattle.verdict.specs.Image.{Image, diagnostics}
+use Rattle.verdict.specs.Check.{Checked, checkAnswer}
 use Rattle.packcheck.specs.Text.{text, line, decimal, integer}
 use Rattle.packcheck.specs.Listing.{Read, stopped, done, maxWords, readListing}
 

@@ -26,7 +26,7 @@ use Rattle.roles.proofs.RolePassLaws.{take-front}
 
 -- ---- the prototypes from one on
 
-protos-drop : (rs : List Row) (ws : List ℕ) (k : ℕ) → drop k (protosOf rs ws) ≡ protosOf (drop k rs) (drop (wordTotal (take k rs)) ws)
+pub protos-drop : (rs : List Row) (ws : List ℕ) (k : ℕ) → drop k (protosOf rs ws) ≡ protosOf (drop k rs) (drop (wordTotal (take k rs)) ws)
 unfolding protosOf wordTotal
 protos-drop rs ws zero = refl
 protos-drop [] ws (suc k) = refl

@@ -1,9 +1,2 @@
-pub mod Operands
-pub mod Diagnostics
-pub mod Walk
-pub mod Image
-pub mod Check
-pub mod Rules
-pub mod Executions
-pub mod Statements
-pub mod Examples
+pub mod Contracts
+pub mod Steps

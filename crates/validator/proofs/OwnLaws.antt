@@ -1,0 +1,176 @@
+-- A prototype's own steps: its truncated owner, its stack, and its words one after another. Assumes nothing.
+use Prim.Native.Nat.{ℕ, suc, _+_, _-_, _*_, _/_, _≤_, _<_}
+use native.Mathlib.Numerals.{add-one}
+use native.Mathlib.Omega.{arith}
+use mathlib.Core.Path.{_≡_, refl, sym, _∙_, ap, subst}
+use mathlib.Core.Bool.{Bool, true, false, _&&_, _||_, not, cond, and-false}
+use mathlib.Core.List.{List, [], _∷_, _++_, map, flatMap, flatten, foldl, append-nil, foldl-append}
+use lib.Dec.{T, ltb, leb}
+use lib.IntN.{pos, negsuc}
+use lib.ListN.{length, take, drop}
+use borrow.Author.Tests.{lt-ltb}
+use Rattle.opcodes.specs.Bytes.{u32s, i32Bits}
+use Rattle.opcodes.specs.Lists.{only, upFrom}
+use Rattle.opcodes.proofs.ByteLaws.{length-u32s}
+use Rattle.opcodes.proofs.TestLaws.{T-true}
+use Rattle.roles.specs.Contracts.{roleIn, protoIn}
+use Rattle.roles.specs.Roles.{Role, Executable, executableAt, isExecutable, roleAt, wordAt}
+use Rattle.roles.specs.Table.{Proto}
+use Rattle.roles.proofs.RoleLaws.{executable}
+use Rattle.verdict.specs.Diagnostics.{Diagnostic, Step, testedStep, untestedStep, hasLargeStack, stackDiagnostics, truncationAt, wordDiagnostics, diagnosticsAt, protoSteps}
+use Rattle.validator.specs.Contracts.{Limits, Describes, faultDiagnostics}
+use Rattle.validator.specs.Steps.{State, emittedIf, emitAll, ended, testedOf, advance}
+use Rattle.validator.specs.declared.fault.Lua51RoleFault.{Lua51RoleFault}
+use Rattle.validator.specs.declared.prototype.Prototype.{Prototype}
+use Rattle.validator.specs.declared.walk.WalkState.{WalkState}
+use Rattle.validator.proofs.EmitLaws.{emits-none, emits-only}
+use Rattle.validator.proofs.RowLaws.{tested-step, steps-ended}
+
+-- ---- the stack and the truncated owner
+
+pub stack-warned : (row : ℕ) (p : Proto) (q : Prototype) → Limits p q → (s t : State) → t ≡ emittedIf (ltb 250 (q .stack)) row 4294967295 3 (q .stack) s → t ≡ emitAll row (stackDiagnostics p) s
+unfolding stackDiagnostics hasLargeStack i32Bits
+stack-warned row p q l s t e = rw (l .stack) (e ∙ emits-only row (ltb 250 (q .stack)) (record { pc = negsuc 0; code = 3; value = pos (q .stack) }) s)
+
+-- the steps of a fault, once the code knows which it is
+pub fault-steps : (row : ℕ) (found told : Lua51RoleFault) (s t : State) → found ≡ told → t ≡ foldl (advance row) s (map (λ d. testedStep (d ∷ [])) (faultDiagnostics told))
+    → t ≡ foldl (advance row) s (map (λ d. testedStep (d ∷ [])) (faultDiagnostics found))
+fault-steps row found told s t e f = f ∙ ap (λ (x : Lua51RoleFault). foldl (advance row) s (map (λ d. testedStep (d ∷ [])) (faultDiagnostics x))) (sym e)
+
+-- ---- a word
+
+module _ (p : Proto) (q : Prototype) (code records : List ℕ) (d : Describes p q code records) (pc : ℕ) where
+  looked : (b c : Bool) → b ≡ not (isExecutable (roleIn records pc)) → b ≡ c → not (isExecutable (roleAt p pc)) ≡ c
+  looked b c e f = ap (λ (r : Role). not (isExecutable r)) (sym (d .stands .roles pc)) ∙ sym e ∙ f
+
+  pub executes : pc < length code / 4 → (b : Bool) → b ≡ not (isExecutable (roleIn records pc)) → b ≡ false → Executable p pc
+  executes h b e f =
+      executable p pc (omega (arith, h, ap length (d .code), length-u32s code)) (not-false (isExecutable (roleAt p pc)) (looked b false e f))
+    where
+      not-false : (b : Bool) → not b ≡ false → T b
+      not-false true q = tt
+      not-false false q = subst T q tt
+
+-- a companion adds nothing
+pub companion-adds : (row : ℕ) (s : State) (p : Proto) (q : Prototype) (code records : List ℕ) → Describes p q code records → (pc : ℕ) (b : Bool) → b ≡ not (isExecutable (roleIn records pc)) → b ≡ true
+    → s ≡ emitAll row (diagnosticsAt p pc) s
+unfolding diagnosticsAt executableAt
+companion-adds row s p q code records d pc b e f =
+    let no : isExecutable (roleAt p pc) ≡ false = not-true (isExecutable (roleAt p pc)) (looked p q code records d pc b true e f) in
+    rw (no, and-false) (emits-none row s)
+  where
+    not-true : (b : Bool) → not b ≡ true → b ≡ false
+    not-true true q = sym q
+    not-true false q = refl
+
+-- an executable word adds its own
+pub word-adds : (row pc : ℕ) (p : Proto) (s t : State) → Executable p pc → t ≡ emitAll row (wordDiagnostics p pc (wordAt p pc)) s → t ≡ emitAll row (diagnosticsAt p pc) s
+unfolding diagnosticsAt
+word-adds row pc p s t x e = rw (T-true (executableAt p pc) x) e
+
+-- ---- the words one after another
+
+-- the step of the word at pc
+abbrev pub wordStep : Proto → ℕ → Step
+wordStep p pc = testedStep (diagnosticsAt p pc)
+
+-- at pc, of n words: the steps of the words from there on lead to where all of them lead
+pub record WordPass (q : Prototype) (code records : List ℕ) (n : ℕ) (s₀ s : State) (pc : ℕ) : Type 0 where
+  pub long : length (s .1) ≡ length (s₀ .1)
+  pub within : pc ≤ n
+  pub rest : (p : Proto) → Describes p q code records → foldl (advance (q .row)) s (map (wordStep p) (upFrom pc (n - pc))) ≡ foldl (advance (q .row)) s₀ (map (wordStep p) (upFrom 0 n))
+
+module _ (q : Prototype) (code records : List ℕ) (n : ℕ) (s₀ : State) where
+  pub words-begin : WordPass q code records n s₀ s₀ 0
+  words-begin =
+      record { long = refl; within = omega arith; rest = λ p d. (let all : n - 0 ≡ n = omega arith in ap (λ (k : ℕ). foldl (advance (q .row)) s₀ (map (wordStep p) (upFrom 0 k))) all) }
+
+  module _ (s : State) (pc : ℕ) (pass : WordPass q code records n s₀ s pc) where
+    pub words-end : n ≤ pc → (p : Proto) → Describes p q code records → s ≡ foldl (advance (q .row)) s₀ (map (wordStep p) (upFrom 0 n))
+    words-end h p d = let z : n - pc ≡ 0 = omega arith in subst (λ (k : ℕ). foldl (advance (q .row)) s (map (wordStep p) (upFrom pc k)) ≡ foldl (advance (q .row)) s₀ (map (wordStep p) (upFrom 0 n))) z (pass .rest p d)
+
+    module _ (h : pc < n) (t : State) (stepped : (p : Proto) → Describes p q code records → t ≡ advance (q .row) s (wordStep p pc)) where
+      onwards : (p : Proto) → Describes p q code records → foldl (advance (q .row)) t (map (wordStep p) (upFrom (pc + 1) (n - (pc + 1)))) ≡ foldl (advance (q .row)) s₀ (map (wordStep p) (upFrom 0 n))
+      onwards p d =
+          let k : n - pc ≡ suc (n - (pc + 1)) = omega arith in
+          ap (λ (x : State). foldl (advance (q .row)) x (map (wordStep p) (upFrom (pc + 1) (n - (pc + 1))))) (stepped p d)
+          ∙ ap (λ (i : ℕ). foldl (advance (q .row)) (advance (q .row) s (wordStep p pc)) (map (wordStep p) (upFrom i (n - (pc + 1))))) (add-one pc)
+          ∙ subst (λ (m : ℕ). foldl (advance (q .row)) s (map (wordStep p) (upFrom pc m)) ≡ foldl (advance (q .row)) s₀ (map (wordStep p) (upFrom 0 n))) k (pass .rest p d)
+
+      pub words-next : length (t .1) ≡ length (s .1) → WordPass q code records n s₀ t (pc + 1)
+      words-next size = record { long = size ∙ pass .long; within = omega arith; rest = onwards }
+
+      -- where the walk has ended, the words after it change nothing
+      pub words-stop : t .0 .limit ≡ true → (p : Proto) → Describes p q code records → t ≡ foldl (advance (q .row)) s₀ (map (wordStep p) (upFrom 0 n))
+      words-stop l p d = sym (steps-ended (q .row) t (map (wordStep p) (upFrom (pc + 1) (n - (pc + 1)))) l) ∙ onwards p d
+
+-- ---- all of them
+
+-- the code has all words
+pub words-of : (p : Proto) (q : Prototype) (code records : List ℕ) → Describes p q code records → length code / 4 ≡ length (p .code)
+words-of p q code records d = sym (ap length (d .code) ∙ length-u32s code)
+
+-- a diagnostic of a truncated owner, after a test
+abbrev faultStep : Diagnostic → Step
+faultStep d = testedStep (d ∷ [])
+
+-- the steps of the words, of the truncated owner, and those that follow these and the first test
+abbrev wordSteps : Proto → List Step
+wordSteps p = map (wordStep p) (upFrom 0 (length (p .code)))
+
+abbrev faultSteps : Proto → List Step
+faultSteps p = map faultStep (flatMap (truncationAt p) (upFrom 0 (length (p .code))))
+
+abbrev afterFault : Proto → List Step
+afterFault p = untestedStep (stackDiagnostics p) ∷ (wordSteps p ++ [])
+
+abbrev afterTest : Proto → List Step
+afterTest p = faultSteps p ++ afterFault p
+
+-- what the code found, for all words
+module _ (row : ℕ) (p : Proto) (q : Prototype) (code records : List ℕ) (d : Describes p q code records) (s u : State) where
+  pub faulted : (found : Lua51RoleFault) → faultDiagnostics found ≡ flatMap (truncationAt p) (upFrom 0 (length code / 4)) → u ≡ foldl (advance row) s (map faultStep (faultDiagnostics found))
+      → u ≡ foldl (advance row) s (faultSteps p)
+  faulted found e f =
+      f ∙ ap (λ (ds : List Diagnostic). foldl (advance row) s (map faultStep ds)) (e ∙ ap (λ (n : ℕ). flatMap (truncationAt p) (upFrom 0 n)) (words-of p q code records d))
+
+  pub worded : u ≡ foldl (advance row) s (map (wordStep p) (upFrom 0 (length code / 4))) → u ≡ foldl (advance row) s (wordSteps p)
+  worded f = f ∙ ap (λ (n : ℕ). foldl (advance row) s (map (wordStep p) (upFrom 0 n))) (words-of p q code records d)
+
+module _ (row : ℕ) (p : Proto) (s : State) (t : WalkState) (e : t ≡ testedOf (s .0)) where
+  begins : _≡_ {A = State} (t, s .1) (advance row s (testedStep []))
+  begins = ap (λ (w : WalkState). (w, s .1)) e ∙ sym (tested-step row s)
+
+  -- from the first test on
+  after-test : foldl (advance row) s (protoSteps p)
+      ≡ foldl (advance row) (t, s .1) (afterTest p)
+  unfolding protoSteps flatten
+  after-test =
+      ap (λ (x : State). foldl (advance row) x (afterTest p)) (sym begins)
+
+  -- the walk ends there
+  pub own-test : t .limit ≡ true → _≡_ {A = State} (t, s .1) (foldl (advance row) s (protoSteps p))
+  own-test l = sym (after-test ∙ steps-ended row (t, s .1) (afterTest p) l)
+
+  module _ (u : State) (f : u ≡ foldl (advance row) (t, s .1) (faultSteps p)) where
+    -- from the truncated owner on
+    after-fault : foldl (advance row) s (protoSteps p) ≡ foldl (advance row) u (afterFault p)
+    after-fault =
+        after-test
+        ∙ foldl-append (advance row) (t, s .1) (faultSteps p) _
+        ∙ ap (λ (x : State). foldl (advance row) x (afterFault p)) (sym f)
+
+    pub own-fault : u .0 .limit ≡ true → u ≡ foldl (advance row) s (protoSteps p)
+    own-fault l = sym (after-fault ∙ steps-ended row u (afterFault p) l)
+
+    stack-step : (v : State) → u .0 .limit ≡ false → v ≡ emitAll row (stackDiagnostics p) u → v ≡ advance row u (untestedStep (stackDiagnostics p))
+    unfolding advance untestedStep
+    stack-step v l g = g ∙ sym (ap (λ (b : Bool). cond (b || false && leb (u .0 .stop) (u .0 .count)) (ended (u .0), u .1) (emitAll row (stackDiagnostics p) u)) l)
+
+    -- to the last word
+    pub own-words : (v z : State) → u .0 .limit ≡ false → v ≡ emitAll row (stackDiagnostics p) u → z ≡ foldl (advance row) v (wordSteps p) → z ≡ foldl (advance row) s (protoSteps p)
+    own-words v z l g h =
+        let words = wordSteps p in
+        h ∙ ap (λ (x : State). foldl (advance row) x words) (stack-step v l g)
+        ∙ ap (foldl (advance row) (advance row u (untestedStep (stackDiagnostics p)))) (sym (append-nil words))
+        ∙ sym after-fault

@@ -1,0 +1,54 @@
+-- Laws of the diagnostics buffer once records were written to it one after another. Assumes nothing.
+use Prim.Native.Nat.{ℕ, suc, _+_, _*_, _≤_, _<_}
+use native.Mathlib.Nat.{add-zero, add-suc, suc-add}
+use native.Mathlib.Omega.{arith}
+use mathlib.Core.Path.{_≡_, refl, sym, ap, _∙_}
+use mathlib.Core.List.{List, [], _∷_, _++_, flatMap}
+use lib.ListN.{length}
+use Rattle.opcodes.specs.Bytes.{u32Record, i32Record, overwrite}
+use Rattle.verdict.specs.Walk.{RowDiagnostic, diagnosticFields}
+use Rattle.validator.specs.Steps.{written}
+use Rattle.opcodes.proofs.ByteLaws.{length-i32Record, length-overwrite, overwrite-none, overwrite-unfit, i32Record-next}
+use Rattle.opcodes.proofs.ListLaws.{length-flatMap}
+
+length-fields : (d : RowDiagnostic) → length (diagnosticFields d) ≡ 4
+unfolding diagnosticFields
+length-fields d = refl
+
+-- some records and then others
+pub written-append : (k : ℕ) (xs ys : List RowDiagnostic) (out : List ℕ) → written k (xs ++ ys) out ≡ written (k + length xs) ys (written k xs out)
+unfolding written
+written-append k [] ys out = ap (λ (n : ℕ). written n ys out) (sym (add-zero k))
+written-append k (x ∷ xs) ys out =
+    let next = overwrite out (16 * k) (i32Record (diagnosticFields x)) in
+    written-append (suc k) xs ys next ∙ ap (λ (n : ℕ). written n ys (written (suc k) xs next)) (suc-add k (length xs) ∙ sym (add-suc k (length xs)))
+
+pub length-written : (k : ℕ) (ds : List RowDiagnostic) (out : List ℕ) → length (written k ds out) ≡ length out
+unfolding written
+length-written k [] out = refl
+length-written k (d ∷ ds) out = length-written (suc k) ds _ ∙ length-overwrite out (16 * k) (i32Record (diagnosticFields d))
+
+-- where all of them fit, they are one write
+written-from : (k : ℕ) (ds : List RowDiagnostic) (out : List ℕ) → 16 * (k + length ds) ≤ length out
+    → written k ds out ≡ overwrite out (16 * k) (i32Record (flatMap diagnosticFields ds))
+unfolding written diagnosticFields i32Record u32Record flatMap
+written-from k [] out h = sym (overwrite-none out (16 * k))
+written-from k (d ∷ ds) out h =
+    let next = overwrite out (16 * k) (i32Record (diagnosticFields d)) in
+    let one = length-i32Record (diagnosticFields d) in
+    let others = length-i32Record (flatMap diagnosticFields ds) in
+    let count = length-flatMap diagnosticFields 4 length-fields ds in
+    i32Record-next diagnosticFields out next _ (16 * k) (16 * suc k) (d ∷ []) ds (omega (arith, one)) (omega (arith, one, others, count)) refl
+    (written-from (suc k) ds next (omega (arith, length-overwrite out (16 * k) (i32Record (diagnosticFields d)))))
+
+pub written-fits : (ds : List RowDiagnostic) (old : List ℕ) → 16 * length ds ≤ length old → written 0 ds old ≡ overwrite old 0 (i32Record (flatMap diagnosticFields ds))
+written-fits ds old h = written-from 0 ds old (omega arith)
+
+-- where not even one fits, nothing is written
+pub written-none : (k : ℕ) (ds : List RowDiagnostic) (old : List ℕ) → length old < 16 → written k ds old ≡ old
+unfolding written
+written-none k [] old h = refl
+written-none k (d ∷ ds) old h =
+    let record-size = length-i32Record (diagnosticFields d) in
+    ap (written (suc k) ds) (overwrite-unfit old (16 * k) (i32Record (diagnosticFields d)) (omega (arith, record-size, length-fields d)))
+    ∙ written-none (suc k) ds old h

@@ -1,0 +1,29 @@
+-- `validate_words` meets its contract: the loop takes the step of each word, until one ends the walk. Assumes nothing.
+use Prim.Native.Nat.{_-_}
+use native.Mathlib.Omega.{arith}
+use mathlib.Core.Path.{_∙_}
+use Rattle.validator.proofs.OwnLaws.{WordPass, words-begin, words-end, words-next, words-stop}
+use Rattle.validator.proofs.proto.validate_words.Statement.{statement}
+use Rattle.validator.proofs.proto.validate_words.Tie as tie
+
+abbrev Inv-loop : tie.InvT-loop
+Inv-loop out₀ proto code roles n walk₀ pc₀ out walk pc = WordPass proto code roles n (walk₀, out₀) (walk, out) pc
+
+abbrev μ-loop : tie.MeasureT-loop
+μ-loop out₀ proto code roles n walk₀ pc₀ out walk pc = n - pc
+
+pub validate-words-spec : {M : Type 1} → statement M
+validate-words-spec =
+    tie.close
+    (tie.spec
+    Inv-loop
+    μ-loop
+    (λ c. words-begin _ _ _ _ _)
+    (λ c κs. (omega (arith, c .before .loop-test .taken), c .before .before .before .before .before .before .pre .0, c .before .before .before .before .before .before .pre .1))
+    (λ c. c .before .before .before .validate-at .kept .1 .0 ∙ c .before .before .before .before .before .before .loop .inv .long)
+    (λ c. words-stop _ _ _ _ _ _ _ (c .before .before .before .before .before .before .loop .inv) (c .before .before .before .before .before .loop-test .taken) _ (c .before .before .before .validate-at .ensures) (c .if1 .taken))
+    (λ c. omega (arith, c .before .before .before .before .before .loop-test .taken))
+    (λ c. omega (arith, c .before .before .before .before .before .loop-test .taken))
+    (λ c. words-next _ _ _ _ _ _ _ (c .before .before .before .before .before .before .loop .inv) (c .before .before .before .before .before .loop-test .taken) _ (c .before .before .before .validate-at .ensures) (c .before .before .before .validate-at .kept .1 .0))
+    (λ c. c .before .loop .inv .long)
+    (λ c. words-end _ _ _ _ _ _ _ (c .before .loop .inv) (c .loop-test .left)))

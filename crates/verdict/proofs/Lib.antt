@@ -1,0 +1,9 @@
+pub mod ExampleLaws
+pub mod ExecutionLaws
+pub mod GuaranteeLaws
+pub mod LimitLaws
+pub mod MostLaws
+pub mod RuleLaws
+pub mod Theorems
+pub mod TreeLaws
+pub mod WalkLaws

@@ -1,0 +1,9 @@
+pub mod Operands
+pub mod Diagnostics
+pub mod Walk
+pub mod Image
+pub mod Check
+pub mod Rules
+pub mod Executions
+pub mod Statements
+pub mod Examples

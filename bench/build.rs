@@ -1,4 +1,5 @@
-//! Links the archives that `rt staticlib` wrote. Without that of luad51 all is built but `bench roles` and `bench bindings`.
+//! Links the archives that `rt staticlib` wrote. Without that of luad51 all is built but `bench roles`, `bench bindings`
+//! and `bench check`.
 use std::path::Path;
 
 fn main() {

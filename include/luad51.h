@@ -1,4 +1,4 @@
-/* Roles of Lua 5.1 instruction words, and bindings of upvalues: the C interface of libluad51.a.
+/* Roles of Lua 5.1 instruction words, bindings of upvalues, and the check of an image: the C interface of libluad51.a.
  *
  * An image is two byte slices. All numbers in slices and buffers have their least byte first; no alignment is needed.
  *   prototype table  a row a prototype, in preorder, of LUAD51_ROW_BYTES: five u32
@@ -21,15 +21,17 @@
  * its children in rising order, as compilers write them, or name the same one again. A smaller number starts the search
  * at the prototype's first row again, so an image made to do so can take time in proportion to words times rows.
  *
- * The result of both calls is figure + 2^32 * refusal; bits 40 to 63 are 0.
+ * The result of a call is figure + 2^32 * refusal + 2^40 * verdict; bits 48 to 63 are 0.
  *   accepted  refusal LUAD51_ACCEPTED; the figure is the number of role records, one for each word, or, of
- *             luad51_bindings, the number of binding records, one for each upvalue of each row
- *   refused   refusal 1 to 7, of luad51_bindings 1 to 8; the figure is the first guilty row for LUAD51_BAD_DEPTH and
- *             LUAD51_FIELD_OVER_LIMIT, the number of binding records for LUAD51_BUFFER_TOO_SHORT, otherwise 0
+ *             luad51_bindings, the number of binding records, one for each upvalue of each row, or, of luad51_check,
+ *             the number of diagnostics; the verdict is that of luad51_check, and 0 of the other calls
+ *   refused   refusal 1 to 7, of luad51_bindings and luad51_check 1 to 8; the figure is the first guilty row for
+ *             LUAD51_BAD_DEPTH and LUAD51_FIELD_OVER_LIMIT, the number of records needed for LUAD51_BUFFER_TOO_SHORT,
+ *             otherwise 0; the verdict is 0 and says nothing
  * An accepted call writes its records to the front of its buffers and leaves what lies past them unchanged. A refused
  * call leaves its buffers untouched, except that with LUAD51_BUFFER_TOO_SHORT the role records are written, as by an
- * accepted call. So a call with a role buffer that fits and an empty bindings buffer tells how many binding records
- * there are: the figure, whether it is accepted (then 0) or refused with LUAD51_BUFFER_TOO_SHORT.
+ * accepted call. So a call with a role buffer that fits and an empty buffer for the call's own records tells how many
+ * of those there are: the figure, whether it is accepted (then 0) or refused with LUAD51_BUFFER_TOO_SHORT.
  */
 #ifndef LUAD51_H
 #define LUAD51_H
@@ -45,15 +47,18 @@ extern "C" {
 #define LUAD51_MAX_ROWS 16384
 #define LUAD51_MAX_WORDS 1048576
 #define LUAD51_MAX_DEPTH 199
-#define LUAD51_MAX_BINDINGS 4177920 /* LUAD51_MAX_ROWS rows of 255 upvalues */
+#define LUAD51_MAX_BINDINGS 4177920  /* LUAD51_MAX_ROWS rows of 255 upvalues */
+#define LUAD51_MAX_DIAGNOSTICS 10255 /* 9999 and a word that has 256 */
 
 /* Sizes in bytes. */
 #define LUAD51_ROW_BYTES 20
 #define LUAD51_WORD_BYTES 4
 #define LUAD51_ROLE_BYTES 8
 #define LUAD51_BINDING_BYTES 12
+#define LUAD51_DIAGNOSTIC_BYTES 16
 
-/* Stack that a call takes at most, as compiled for x86-64: measured, not proved. */
+/* Stack that a call takes at most, as compiled for x86-64: measured, not proved. TODO 1: measured of luad51_roles and
+ * luad51_bindings; that of luad51_check is still to be measured. */
 #define LUAD51_STACK_BYTES 800000
 
 /* Why a call was refused: the least number whose condition holds. */
@@ -66,7 +71,37 @@ enum luad51_refusal_number {
     LUAD51_FIELD_OVER_LIMIT = 5,      /* a row's constants, upvalues or stack are over their limit */
     LUAD51_WORD_COUNT_MISMATCH = 6,   /* the words are not 4 bytes for each word that the rows state */
     LUAD51_ROLE_BUFFER_TOO_SHORT = 7, /* the role buffer has less than LUAD51_ROLE_BYTES for each word */
-    LUAD51_BUFFER_TOO_SHORT = 8       /* the bindings buffer has less than LUAD51_BINDING_BYTES for each upvalue */
+    LUAD51_BUFFER_TOO_SHORT = 8       /* the bindings buffer has less than LUAD51_BINDING_BYTES for each upvalue, or
+                                         the diagnostics buffer less than LUAD51_DIAGNOSTIC_BYTES for each diagnostic */
+};
+
+/* What an accepted luad51_check says of an image. */
+enum luad51_verdict_number {
+    LUAD51_VALID_FOR_PARSER = 0, /* no error, and all was looked at */
+    LUAD51_INCOMPLETE = 1,       /* no error, but the diagnostic limit ended the check before its end */
+    LUAD51_INVALID = 2           /* an error, incoming or found */
+};
+
+/* What a diagnostic says, by luad's names, and its value. All but L51_STACK_001, a warning, are errors. A row has the
+ * registers below its stack, and the constants and upvalues below its numbers of them. */
+enum luad51_code {
+    L51_CLOSURE_001 = 1,   /* CLOSURE that lacks binding words; value: the child's upvalues */
+    L51_SETLIST_001 = 2,   /* SETLIST with C = 0 that lacks its extra word; value: 0 */
+    L51_STACK_001 = 3,     /* stack above 250, a warning; pc -1; value: stack */
+    L51_OP_001 = 4,        /* opcode above 37; value: opcode */
+    L51_JMP_001 = 5,       /* jump to a pc that the prototype does not have; value: that pc */
+    L51_JMP_002 = 6,       /* jump, or skip of the next word, to a binding word or extra word; value: its pc */
+    L51_CONST_003 = 7,     /* no such constant Bx; value: Bx */
+    L51_UPVAL_001 = 8,     /* no such upvalue B; value: B */
+    L51_BOOL_001 = 9,      /* EQ, LT, LE with A above 1; value: A */
+    L51_REG_001 = 10,      /* no such register A; value: A */
+    L51_REG_SPAN_001 = 11, /* no such register at the end of a span; value: that register */
+    L51_REG_002 = 12,      /* no such register B; value: B */
+    L51_REG_003 = 13,      /* no such register C; value: C */
+    L51_CONST_004 = 14,    /* B names a constant that there is not; value: its index */
+    L51_CONST_005 = 15,    /* C names a constant that there is not; value: its index */
+    L51_PROTO_002 = 16,    /* CLOSURE without a child Bx; value: Bx */
+    L51_CLOSURE_002 = 17   /* binding word that is neither MOVE nor GETUPVAL; value: its opcode, or -1 above 37 */
 };
 
 /* Writes the role of every word, in the order of the words. A record is two i32, LUAD51_ROLE_BYTES together:
@@ -93,6 +128,21 @@ uint64_t luad51_roles(const uint8_t *protos, size_t protos_len, const uint8_t *w
 uint64_t luad51_bindings(const uint8_t *protos, size_t protos_len, const uint8_t *words, size_t words_len,
                          uint8_t *roles, size_t roles_len, uint8_t *bindings, size_t bindings_len);
 
+/* Writes the roles as luad51_roles does, and what is wrong with the image. `warnings` and `errors` are the numbers of
+ * diagnostics that the caller already has of it. A record is four i32, LUAD51_DIAGNOSTIC_BYTES together: row, pc, code
+ * (enum luad51_code), value. The pc is that of the word, of a binding word where this is wrong, or -1.
+ * They stand in row order: of a row first L51_CLOSURE_001 or L51_SETLIST_001, then L51_STACK_001, then those of its
+ * words by pc, those of binding words with their CLOSURE.
+ * The check ends before its end, with the limit reached, where incoming and new diagnostics together are 10000 or more
+ * before a row or a word; a word's own are never cut. So there are at most LUAD51_MAX_DIAGNOSTICS new ones, and a
+ * buffer for as many is never too short.
+ * With a buffer for LUAD51_MAX_DIAGNOSTICS records or more, and where there are no diagnostics, the image is walked
+ * once; otherwise twice, to count the diagnostics and to write them. Nothing is allocated.
+ */
+uint64_t luad51_check(const uint8_t *protos, size_t protos_len, const uint8_t *words, size_t words_len,
+                      uint32_t warnings, uint32_t errors, uint8_t *roles, size_t roles_len, uint8_t *diagnostics,
+                      size_t diagnostics_len);
+
 /* A result's refusal, as in enum luad51_refusal_number. */
 static inline uint32_t luad51_refusal(uint64_t result)
 {
@@ -103,6 +153,12 @@ static inline uint32_t luad51_refusal(uint64_t result)
 static inline uint32_t luad51_figure(uint64_t result)
 {
     return result & 0xffffffff;
+}
+
+/* A result's verdict, as in enum luad51_verdict_number; it says something only where luad51_check accepted. */
+static inline uint32_t luad51_verdict(uint64_t result)
+{
+    return result >> 40 & 0xff;
 }
 
 #ifdef __cplusplus

@@ -2,6 +2,7 @@
 pub mod bindings;
 mod calls;
 mod case;
+pub mod check;
 mod images;
 mod model;
 pub mod roles;

@@ -1,6 +1,6 @@
 //! `bench` times reading and splitting words; `bench all [STEP]` compares the split of every word, or of every STEP-th,
-//! with luad's; `bench roles` and `bench bindings` time a call of luad51, and with `compare` they only compare it with
-//! luad. The exit status is 1 where a call's answer is not luad's.
+//! with luad's; `bench roles`, `bench bindings` and `bench check` time a call of luad51, and with `compare` they only
+//! compare it with luad. The exit status is 1 where a call's answer is not luad's.
 #[cfg(luad51)]
 mod luad51;
 mod timing;
@@ -21,11 +21,15 @@ fn run(arguments: &[&str]) -> Result<(), String> {
         ["bindings"] => luad51::bindings::time()?,
         #[cfg(luad51)]
         ["bindings", "compare"] => luad51::bindings::compare()?,
+        #[cfg(luad51)]
+        ["check"] => luad51::check::time()?,
+        #[cfg(luad51)]
+        ["check", "compare"] => luad51::check::compare()?,
         #[cfg(not(luad51))]
-        ["roles" | "bindings", ..] => {
+        ["roles" | "bindings" | "check", ..] => {
             panic!("built without the archive of luad51: rt staticlib luad51, then build again")
         }
-        _ => panic!("bench, bench all [STEP], bench roles [compare], or bench bindings [compare]"),
+        _ => panic!("bench, bench all [STEP], or bench roles, bindings or check [compare]"),
     }
     Ok(())
 }

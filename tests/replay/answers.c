@@ -10,8 +10,17 @@
 /* Values in one group of a repetition at most. */
 #define LONGEST_GROUP 64
 
-/* Where a row has its upvalues: one byte, since they are at most 255 where none of the refusals 1 to 6 applies. */
+/* Where a row has its words and its upvalues. */
+#define WORDS_AT 4
 #define UPVALUES_AT 12
+
+/* Where a diagnostic has its code. */
+#define CODE_AT 8
+
+/* Incoming and new diagnostics with which the limit is met. */
+#define DIAGNOSTIC_LIMIT 10000
+
+const char *const VERDICTS[] = {"ValidForParser", "Incomplete", "Invalid"};
 
 /* How a call's lines begin, its last refusal, and the bytes of its own records. */
 struct lines {
@@ -24,6 +33,7 @@ struct lines {
 static const struct lines LINES[CALLS] = {
     {"roles ", "R ", LUAD51_ROLE_BUFFER_TOO_SHORT, LUAD51_ROLE_BYTES},
     {"bindings ", "B ", LUAD51_BUFFER_TOO_SHORT, LUAD51_BINDING_BYTES},
+    {"check ", "D ", LUAD51_BUFFER_TOO_SHORT, LUAD51_DIAGNOSTIC_BYTES},
 };
 
 /* How the values of a line are written: in decimal within limits, or as eight hexadecimal digits. */
@@ -91,14 +101,6 @@ static void end_line(struct answers *answers)
     if (!take(answers, "\n"))
         malformed(answers, "the line does not end where it must");
     answers->line++;
-}
-
-/* A line that the calls replayed here do not need. */
-static void skip_line(struct answers *answers, const char *name)
-{
-    need(answers, name);
-    answers->at += strcspn(answers->at, "\n");
-    end_line(answers);
 }
 
 /* A decimal number without leading zeros. */
@@ -189,6 +191,14 @@ static void put(uint8_t *to, int64_t value)
         to[i] = (uint8_t)((uint32_t)value >> 8 * i);
 }
 
+static uint32_t get(const uint8_t *from)
+{
+    uint32_t value = 0;
+    for (int i = 0; i < 4; i++)
+        value |= (uint32_t)from[i] << 8 * i;
+    return value;
+}
+
 /* Writes out a repetition; returns where its bytes end. */
 static uint8_t *expand(const struct answers *answers, const struct form *form, struct item *item, uint8_t *to,
                        const uint8_t *end)
@@ -251,33 +261,49 @@ static void read_label(struct answers *answers, struct image *image)
     end_line(answers);
 }
 
-static void read_incoming(struct answers *answers)
+static void read_incoming(struct answers *answers, struct image *image)
 {
     need(answers, "incoming ");
-    u32(answers);
+    image->warnings = u32(answers);
     need(answers, " ");
-    u32(answers);
+    image->errors = u32(answers);
     end_line(answers);
 }
 
 static void read_buffers(struct answers *answers, struct image *image)
 {
-    need(answers, "buffers ");
+    need(answers, "buffers");
     for (int call = ROLES; call < CALLS; call++) {
-        image->answers[call].buffer_len = u32(answers);
         need(answers, " ");
+        image->answers[call].buffer_len = u32(answers);
     }
-    u32(answers);
     end_line(answers);
 }
 
-static struct outcome read_outcome(struct answers *answers, const struct lines *lines)
+/* The verdict's name, or - where the call is refused. */
+static uint32_t read_verdict(struct answers *answers, bool accepted)
 {
-    struct outcome outcome;
-    need(answers, lines->outcome);
-    outcome.refusal = (uint32_t)decimal(answers, 0, lines->last_refusal);
+    uint32_t verdict = 0;
+    need(answers, " ");
+    if (!accepted) {
+        need(answers, "-");
+        return 0;
+    }
+    while (!take(answers, VERDICTS[verdict]))
+        if (++verdict > LUAD51_INVALID)
+            malformed(answers, "not a verdict");
+    return verdict;
+}
+
+static struct outcome read_outcome(struct answers *answers, enum call call)
+{
+    struct outcome outcome = {0};
+    need(answers, LINES[call].outcome);
+    outcome.refusal = (uint32_t)decimal(answers, 0, LINES[call].last_refusal);
     need(answers, " ");
     outcome.figure = u32(answers);
+    if (call == CHECK)
+        outcome.verdict = read_verdict(answers, outcome.refusal == LUAD51_ACCEPTED);
     end_line(answers);
     return outcome;
 }
@@ -294,7 +320,7 @@ static void read_outcomes(struct answers *answers, struct image *image)
 {
     const struct outcome *roles = &image->answers[ROLES].outcome;
     for (int call = ROLES; call < CALLS; call++) {
-        image->answers[call].outcome = read_outcome(answers, &LINES[call]);
+        image->answers[call].outcome = read_outcome(answers, call);
         if (!suits(&image->answers[call].outcome, roles))
             malformed(answers, "a call that is not answered as the roles call");
     }
@@ -306,19 +332,20 @@ static size_t count_upvalues(const struct bytes *table)
 {
     size_t count = 0;
     for (size_t at = UPVALUES_AT; at < table->len; at += LUAD51_ROW_BYTES)
-        count += table->at[at];
+        count += get(table->at + at);
     return count;
 }
 
-/* A line of so many records. They fit the buffer of an accepted call, and do not fit where it is too short; either has
- * their number as its figure. */
-static void read_records(struct answers *answers, const struct lines *lines, size_t count, struct answer *answer)
+/* A line of at least and at most so many records. They fit the buffer of an accepted call, and do not fit where it is
+ * too short; either has their number as its figure. */
+static void read_records(struct answers *answers, const struct lines *lines, size_t least, size_t most,
+                         struct answer *answer)
 {
     const struct outcome *outcome = &answer->outcome;
-    size_t len = lines->record_len * count;
     bool accepted = outcome->refusal == LUAD51_ACCEPTED;
     need(answers, lines->records);
-    if (u32(answers) != count)
+    size_t count = u32(answers), len = lines->record_len * count;
+    if (count < least || count > most)
         malformed(answers, "not as many records as the image needs");
     if (accepted || outcome->refusal == LUAD51_BUFFER_TOO_SHORT)
         if (accepted != (len <= answer->buffer_len) || outcome->figure != count)
@@ -327,24 +354,57 @@ static void read_records(struct answers *answers, const struct lines *lines, siz
     answer->records = read_values(answers, &RECORD_VALUE, len);
 }
 
+/* Whether an error came in or was found: every diagnostic but that of the stack is one. */
+static bool has_error(const struct image *image)
+{
+    const struct bytes *diagnostics = &image->answers[CHECK].records;
+    for (size_t at = CODE_AT; at < diagnostics->len; at += LUAD51_DIAGNOSTIC_BYTES)
+        if (get(diagnostics->at + at) != L51_STACK_001)
+            return true;
+    return image->errors > 0;
+}
+
+/* Whether the limit ended the check of an image without errors: it was met by incoming warnings alone, or by the last
+ * diagnostic, that of a row's stack, and a word of this row or another row comes after it. */
+static bool is_cut(const struct image *image)
+{
+    const struct answer *check = &image->answers[CHECK];
+    if ((uint64_t)image->warnings + check->count < DIAGNOSTIC_LIMIT)
+        return false;
+    if (check->count == 0)
+        return true;
+    size_t row = get(check->records.at + check->records.len - LUAD51_DIAGNOSTIC_BYTES);
+    size_t at = row * LUAD51_ROW_BYTES;
+    return at + LUAD51_ROW_BYTES != image->table.len || get(image->table.at + at + WORDS_AT) > 0;
+}
+
+/* The verdict, which is not stored with a check call that is refused. Where it is stored, this must be it. */
+static void find_verdict(struct answers *answers, struct image *image)
+{
+    const struct outcome *check = &image->answers[CHECK].outcome;
+    image->verdict = has_error(image) ? LUAD51_INVALID : is_cut(image) ? LUAD51_INCOMPLETE : LUAD51_VALID_FOR_PARSER;
+    if (check->refusal == LUAD51_ACCEPTED && check->verdict != image->verdict)
+        malformed(answers, "a verdict that does not suit the diagnostics");
+}
+
 static void read_all_records(struct answers *answers, struct image *image)
 {
-    size_t counts[CALLS] = {image->words.len / LUAD51_WORD_BYTES, count_upvalues(&image->table)};
+    size_t words = image->words.len / LUAD51_WORD_BYTES, upvalues = count_upvalues(&image->table);
+    size_t least[CALLS] = {words, upvalues, 0}, most[CALLS] = {words, upvalues, LUAD51_MAX_DIAGNOSTICS};
     for (int call = ROLES; call < CALLS; call++)
-        read_records(answers, &LINES[call], counts[call], &image->answers[call]);
-    skip_line(answers, "D ");
+        read_records(answers, &LINES[call], least[call], most[call], &image->answers[call]);
+    find_verdict(answers, image);
 }
 
 static void read_image(struct answers *answers, struct image *image)
 {
     *image = (struct image){0};
     read_label(answers, image);
-    read_incoming(answers);
+    read_incoming(answers, image);
     image->table = read_bytes(answers, "table ", "tail ", &FIELD);
     image->words = read_bytes(answers, "words ", "wtail ", &WORD);
     read_buffers(answers, image);
     read_outcomes(answers, image);
-    skip_line(answers, "check ");
     if (image->has_records)
         read_all_records(answers, image);
     end_line(answers);

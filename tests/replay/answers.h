@@ -7,21 +7,25 @@
 #include <stddef.h>
 #include <stdint.h>
 
+#include "luad51.h"
+
 struct bytes {
     uint8_t *at;
     size_t len;
 };
 
-/* What a call must answer: refusal number, or 0; its figure, or the number of records. */
+/* What a call must answer: refusal number, or 0; its figure, or the number of records; the verdict of an accepted check
+ * call, otherwise 0. */
 struct outcome {
     uint32_t refusal;
     uint32_t figure;
+    uint32_t verdict;
 };
 
 /* The calls whose answers are read. Each is lent the role buffer; a later one is lent a buffer of its own, too. */
-enum call { ROLES, BINDINGS, CALLS };
+enum call { ROLES, BINDINGS, CHECK, CALLS };
 
-/* What a call must answer, and the records that are its own: roles, or bindings. */
+/* What a call must answer, and the records that are its own: roles, bindings or diagnostics. */
 struct answer {
     struct outcome outcome;
     size_t buffer_len; /* of the buffer for these records */
@@ -32,11 +36,17 @@ struct answer {
 struct image {
     const char *label; /* points into the text of the file */
     int label_len;
+    uint32_t warnings;
+    uint32_t errors;
     struct bytes table;
     struct bytes words;
     bool has_records; /* none of the refusals 1 to 6 applies */
+    uint32_t verdict; /* of a check call that is lent enough; meaningless where has_records is false */
     struct answer answers[CALLS];
 };
+
+/* The names of the verdicts, by their numbers. */
+extern const char *const VERDICTS[LUAD51_INVALID + 1];
 
 /* An open file and how far it is read. */
 struct answers {

@@ -1,6 +1,7 @@
 /* Replays stored answers through the library: makes its calls for every image of the files named, and compares results
  * and buffers with the answers stored there. Where records are stored, the calls are made again with buffers that they
- * fill exactly, and with each buffer one byte shorter.
+ * fill exactly, with each buffer somewhat shorter or longer, and the check call with an empty diagnostics buffer, with
+ * one for as many diagnostics as there can be and with one for one less.
  *     rt staticlib luad51
  *     cc -std=c99 -O2 -Iinclude -o replay tests/replay/replay.c tests/replay/answers.c target/staticlib/libluad51.a
  *     ./replay tests/answers/small.txt tests/answers/large.txt
@@ -43,38 +44,56 @@ struct buffer {
     uint8_t *block;
     uint8_t *at;
     size_t len;
-    uint8_t *expected; /* guard, buffer and guard as they must be after the call */
+    struct bytes written; /* what must stand in front of it after the call; all else must be as before */
 };
 
 /* All that a call is lent. */
 struct lent {
     struct slice table;
     struct slice words;
+    uint32_t warnings;
+    uint32_t errors;
     struct buffer roles;
-    struct buffer own; /* the roles call has none: empty, and not handed over */
+    struct buffer own; /* not handed over to the roles call, which has none */
 };
 
-/* How a call is made, and its last refusal. */
+/* How a call is made, its last refusal, and the bytes of its own records. */
 struct maker {
     const char *name;
     uint64_t (*make)(const struct lent *lent);
     uint32_t last_refusal;
+    long record_len;
 };
 
-/* Buffers that the records fill exactly, or with one byte less. */
+/* How much longer the buffers are than their records. */
 struct fit {
     const char *name;
-    size_t roles_lack;
-    size_t own_lacks;
+    long role_bytes;
+    long own_records;
+    long own_bytes;
 };
 
-static const struct fit FITS[] = {
-    {"exact buffers", 0, 0}, {"role buffer a byte short", 1, 0}, {"own buffer a byte short", 0, 1}};
+static const struct fit FITS[] = {{"exact buffers", 0, 0, 0},
+                                  {"role buffer a byte short", -1, 0, 0},
+                                  {"own buffer a byte short", 0, 0, -1},
+                                  {"own buffer a record short", 0, -1, 0},
+                                  {"room to spare", 5, 2, 7}};
+
+/* Diagnostics buffers by the number of records that they have room for. */
+struct room {
+    const char *name;
+    size_t records;
+};
+
+static const struct room ROOMS[] = {{"room for no diagnostics", 0},
+                                    {"room for one diagnostic less than there can be", LUAD51_MAX_DIAGNOSTICS - 1},
+                                    {"room for all diagnostics that there can be", LUAD51_MAX_DIAGNOSTICS}};
 
 struct tally {
     unsigned long images;
     unsigned long calls;
     unsigned long stored[CALLS][LUAD51_BUFFER_TOO_SHORT + 1]; /* stored answers by refusal; 0: accepted */
+    unsigned long verdicts[LUAD51_INVALID + 1];               /* stored ones */
     unsigned long differences;
 };
 
@@ -102,8 +121,16 @@ static uint64_t make_bindings(const struct lent *lent)
                            lent->roles.len, lent->own.at, lent->own.len);
 }
 
-static const struct maker MAKERS[CALLS] = {{"roles call", make_roles, LUAD51_ROLE_BUFFER_TOO_SHORT},
-                                           {"bindings call", make_bindings, LUAD51_BUFFER_TOO_SHORT}};
+static uint64_t make_check(const struct lent *lent)
+{
+    return luad51_check(lent->table.at, lent->table.len, lent->words.at, lent->words.len, lent->warnings, lent->errors,
+                        lent->roles.at, lent->roles.len, lent->own.at, lent->own.len);
+}
+
+static const struct maker MAKERS[CALLS] = {
+    {"roles call", make_roles, LUAD51_ROLE_BUFFER_TOO_SHORT, LUAD51_ROLE_BYTES},
+    {"bindings call", make_bindings, LUAD51_BUFFER_TOO_SHORT, LUAD51_BINDING_BYTES},
+    {"check call", make_check, LUAD51_BUFFER_TOO_SHORT, LUAD51_DIAGNOSTIC_BYTES}};
 
 /* Counts a difference. If it is to be shown, prints where it is and returns true; the caller prints the rest. */
 static bool differs(const struct replay *replay, const char *what)
@@ -152,25 +179,44 @@ static void take_back_slice(const struct replay *replay, const char *what, struc
     free(slice->block);
 }
 
-/* A buffer with a fill that depends on the index. Records are expected in front of it if they are to be written. */
+/* At least so many bytes of a manner's fill, which depends on the index. It is kept: to make it takes longer than a
+ * call. */
+static const uint8_t *fill_of(const struct manner *manner, size_t len)
+{
+    static struct bytes fills[COUNT(MANNERS)];
+    struct bytes *fill = &fills[manner - MANNERS];
+    if (fill->len < len) {
+        free(fill->at);
+        fill->at = allocate(len);
+        fill->len = len;
+        for (size_t i = 0; i < len; i++)
+            fill->at[i] = (uint8_t)((uint32_t)i * 2654435761u >> 24) ^ manner->flip;
+    }
+    return fill->at;
+}
+
+/* A filled buffer. Records are expected in front of it if they are to be written. */
 static struct buffer lend_buffer(const struct replay *replay, size_t len, const struct bytes *records, bool written)
 {
     size_t count = GUARD + len + GUARD;
-    struct buffer buffer = {.block = allocate(replay->manner->offset + count), .len = len, .expected = allocate(count)};
+    struct buffer buffer = {.block = allocate(replay->manner->offset + count), .len = len};
     buffer.at = buffer.block + replay->manner->offset + GUARD;
-    for (size_t i = 0; i < count; i++)
-        buffer.expected[i] = (uint8_t)((uint32_t)i * 2654435761u >> 24) ^ replay->manner->flip;
-    memcpy(buffer.at - GUARD, buffer.expected, count);
+    memcpy(buffer.at - GUARD, fill_of(replay->manner, count), count);
     if (written)
-        memcpy(buffer.expected + GUARD, records->at, records->len);
+        buffer.written = *records;
     return buffer;
 }
 
 static void take_back_buffer(const struct replay *replay, const char *what, struct buffer *buffer)
 {
-    compare_bytes(replay, what, buffer->expected, buffer->at - GUARD, GUARD + buffer->len + GUARD, -GUARD);
+    const uint8_t *fill = fill_of(replay->manner, GUARD + buffer->len + GUARD);
+    size_t written = buffer->written.len;
+    compare_bytes(replay, what, fill, buffer->at - GUARD, GUARD, -GUARD);
+    if (written > 0)
+        compare_bytes(replay, what, buffer->written.at, buffer->at, written, 0);
+    compare_bytes(replay, what, fill + GUARD + written, buffer->at + written, buffer->len - written + GUARD,
+                  (long)written);
     free(buffer->block);
-    free(buffer->expected);
 }
 
 static struct lent lend(const struct replay *replay)
@@ -179,7 +225,7 @@ static struct lent lend(const struct replay *replay)
     bool accepted = replay->outcome.refusal == LUAD51_ACCEPTED;
     bool roles_written = accepted || replay->outcome.refusal == LUAD51_BUFFER_TOO_SHORT;
     bool own_written = accepted && replay->call != ROLES;
-    struct lent lent;
+    struct lent lent = {.warnings = image->warnings, .errors = image->errors};
     lent.table = lend_slice(replay, &image->table);
     lent.words = lend_slice(replay, &image->words);
     lent.roles = lend_buffer(replay, replay->roles_len, &image->answers[ROLES].records, roles_written);
@@ -199,7 +245,8 @@ static void compare_result(const struct replay *replay, uint64_t result)
 {
     compare_number(replay, "refusal", replay->outcome.refusal, luad51_refusal(result));
     compare_number(replay, "figure", replay->outcome.figure, luad51_figure(result));
-    compare_number(replay, "bits 40 to 63", 0, result >> 40);
+    compare_number(replay, "verdict", replay->outcome.verdict, luad51_verdict(result));
+    compare_number(replay, "bits 48 to 63", 0, result >> 48);
 }
 
 /* Makes a call in each manner. */
@@ -223,33 +270,57 @@ static void replay_stored(const struct image *image, enum call call, struct tall
     replay.outcome = answer->outcome;
     replay_call(&replay);
     tally->stored[call][answer->outcome.refusal]++;
+    if (call == CHECK && answer->outcome.refusal == LUAD51_ACCEPTED)
+        tally->verdicts[answer->outcome.verdict]++;
 }
 
-/* What a call answers that has so many records and is lent such buffers. */
-static struct outcome outcome_for(const struct fit *fit, size_t count)
+/* The bytes of the records that a call writes to its own buffer. */
+static size_t own_records_len(const struct image *image, enum call call)
 {
-    struct outcome outcome = {LUAD51_ACCEPTED, (uint32_t)count};
-    if (fit->roles_lack > 0) {
+    return call == ROLES ? 0 : image->answers[call].records.len;
+}
+
+/* What a call answers that is lent such buffers. */
+static struct outcome outcome_for(const struct image *image, enum call call, size_t roles_len, size_t own_len)
+{
+    struct outcome outcome = {0};
+    if (roles_len < image->answers[ROLES].records.len) {
         outcome.refusal = LUAD51_ROLE_BUFFER_TOO_SHORT;
-        outcome.figure = 0;
-    } else if (fit->own_lacks > 0) {
-        outcome.refusal = LUAD51_BUFFER_TOO_SHORT;
+        return outcome;
     }
+    outcome.figure = (uint32_t)image->answers[call].count;
+    if (own_len < own_records_len(image, call))
+        outcome.refusal = LUAD51_BUFFER_TOO_SHORT;
+    else if (call == CHECK)
+        outcome.verdict = image->verdict;
     return outcome;
 }
 
-/* A call with such buffers. There is none where a buffer that lacks a byte would have none to lack. */
+/* A call with other buffers than the stored ones. */
+static void replay_with(const struct image *image, enum call call, const char *buffers, size_t roles_len,
+                        size_t own_len, struct tally *tally)
+{
+    struct replay replay = {.image = image, .call = call, .buffers = buffers, .tally = tally};
+    replay.roles_len = roles_len;
+    replay.own_len = own_len;
+    replay.outcome = outcome_for(image, call, roles_len, own_len);
+    replay_call(&replay);
+}
+
+/* A call with such buffers. There is none where a buffer is to be shorter than 0. */
 static void replay_fit(const struct image *image, enum call call, const struct fit *fit, struct tally *tally)
 {
-    size_t roles_len = image->answers[ROLES].records.len;
-    size_t own_len = call == ROLES ? 0 : image->answers[call].records.len;
-    if (roles_len < fit->roles_lack || own_len < fit->own_lacks)
-        return;
-    struct replay replay = {.image = image, .call = call, .buffers = fit->name, .tally = tally};
-    replay.roles_len = roles_len - fit->roles_lack;
-    replay.own_len = own_len - fit->own_lacks;
-    replay.outcome = outcome_for(fit, image->answers[call].count);
-    replay_call(&replay);
+    long roles_len = (long)image->answers[ROLES].records.len + fit->role_bytes;
+    long own_len = (long)own_records_len(image, call) + fit->own_records * MAKERS[call].record_len + fit->own_bytes;
+    if (roles_len >= 0 && own_len >= 0)
+        replay_with(image, call, fit->name, (size_t)roles_len, (size_t)own_len, tally);
+}
+
+/* A check call with a role buffer that fits exactly and such room for diagnostics. */
+static void replay_room(const struct image *image, const struct room *room, struct tally *tally)
+{
+    replay_with(image, CHECK, room->name, image->answers[ROLES].records.len, room->records * LUAD51_DIAGNOSTIC_BYTES,
+                tally);
 }
 
 static void replay_image(const struct image *image, struct tally *tally)
@@ -259,6 +330,8 @@ static void replay_image(const struct image *image, struct tally *tally)
         for (size_t i = 0; image->has_records && i < COUNT(FITS); i++)
             replay_fit(image, call, &FITS[i], tally);
     }
+    for (size_t i = 0; image->has_records && i < COUNT(ROOMS); i++)
+        replay_room(image, &ROOMS[i], tally);
     tally->images++;
 }
 
@@ -283,6 +356,8 @@ static void print_tally(const struct tally *tally)
         for (uint32_t i = LUAD51_NO_PROTOS; i <= last; i++)
             printf("%u: %lu%s", (unsigned)i, tally->stored[call][i], i < last ? ", " : "; ");
     }
+    for (uint32_t i = LUAD51_VALID_FOR_PARSER; i <= LUAD51_INVALID; i++)
+        printf("%s %lu%s", VERDICTS[i], tally->verdicts[i], i < LUAD51_INVALID ? ", " : "; ");
     printf("%lu differences\n", tally->differences);
 }
 

@@ -1,6 +1,6 @@
 //! The bindings call, against luad's roles and bindings of every prototype of the same image.
 use super::case::Case;
-use super::images::IMAGES;
+use super::images::{GROWTH, IMAGES};
 use super::table::Benchmark;
 
 const BENCHMARK: Benchmark<2> = Benchmark {
@@ -9,6 +9,9 @@ const BENCHMARK: Benchmark<2> = Benchmark {
     luad: Case::luad_bindings,
     ratios: &[2, 0],
     compare: |case| case.compare_bindings().map(|_| ()),
+    counted: ("upvalues", Case::upvalues),
+    images: &IMAGES,
+    growth: &GROWTH,
 };
 
 pub fn time() -> Result<(), String> {
@@ -22,16 +25,16 @@ pub fn time() -> Result<(), String> {
 
 /// Compares the roles and bindings of the images with those that luad's own loading made, and times nothing.
 pub fn compare() -> Result<(), String> {
-    let (mut words, mut records, mut bound) = (0, 0, 0);
+    let (mut words, mut upvalues, mut bound) = (0, 0, 0);
     for (name, make) in IMAGES {
         let mut case = Case::new(name, make());
         bound += case.compare_bindings()?;
         words += case.words();
-        records += case.records();
+        upvalues += case.upvalues();
     }
     let images = IMAGES.len();
     println!(
-        "{images} images, {words} words, {records} upvalues, {bound} of them bound: every role and binding is luad's"
+        "{images} images, {words} words, {upvalues} upvalues, {bound} of them bound: every role and binding is luad's"
     );
     Ok(())
 }

@@ -22,6 +22,19 @@ extern "C" {
         bindings: *mut u8,
         bindings_len: usize,
     ) -> u64;
+
+    fn luad51_check(
+        protos: *const u8,
+        protos_len: usize,
+        words: *const u8,
+        words_len: usize,
+        warnings: u32,
+        errors: u32,
+        roles: *mut u8,
+        roles_len: usize,
+        diagnostics: *mut u8,
+        diagnostics_len: usize,
+    ) -> u64;
 }
 
 /// The roles call.
@@ -43,6 +56,25 @@ pub fn bindings(image: &Image, roles: &mut [u8], bindings: &mut [u8]) -> u64 {
             roles.len(),
             bindings.as_mut_ptr(),
             bindings.len(),
+        )
+    }
+}
+
+/// The check call.
+pub fn check(image: &Image, roles: &mut [u8], diagnostics: &mut [u8]) -> u64 {
+    let Image { protos, words, warnings, errors, .. } = image;
+    unsafe {
+        luad51_check(
+            protos.as_ptr(),
+            protos.len(),
+            words.as_ptr(),
+            words.len(),
+            *warnings,
+            *errors,
+            roles.as_mut_ptr(),
+            roles.len(),
+            diagnostics.as_mut_ptr(),
+            diagnostics.len(),
         )
     }
 }

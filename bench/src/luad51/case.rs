@@ -1,22 +1,29 @@
 //! An image with all that the calls and luad need for it, and the comparison of their answers.
 use super::{calls, model};
-use answers::image::{rows, Image, Proto, BINDING_LEN, ROLE_LEN, ROW_LEN};
-use answers::judge::{bindings, decode, preorder, roles};
+use answers::image::{rows, Image, Proto, BINDING_LEN, DIAGNOSTIC_LEN, ROLE_LEN, ROW_LEN};
+use answers::judge::{added, bindings, decode, diagnostics, preorder, roles};
 use luad::model::Chunk;
+use luad::validator::validate_chunk_lua51;
 use std::fmt::Debug;
 use std::hint::black_box;
 
 /// What the buffers hold before a call whose answer is compared.
 const UNWRITTEN: u8 = 0x55;
 
+/// Diagnostics that a check has at most.
+const MOST_DIAGNOSTICS: usize = 10_255;
+
 pub struct Case {
     name: &'static str,
     image: Image,
-    /// luad's model of the image.
+    /// luad's model of the image, with the incoming diagnostics alone.
     chunk: Chunk,
     /// The buffers, which the records fill.
     roles: Vec<u8>,
     bindings: Vec<u8>,
+    /// The buffer for the most diagnostics that there can be, and how many luad's loading found.
+    diagnostics: Vec<u8>,
+    found: usize,
 }
 
 /// The records of a buffer.
@@ -31,8 +38,11 @@ impl Case {
         let upvalues: usize = rows(&image.protos).iter().map(|proto| proto.upvalues as usize).sum();
         let roles = vec![0; ROLE_LEN * (image.words.len() / 4)];
         let bindings = vec![0; BINDING_LEN * upvalues];
-        let chunk = decode(&image).0;
-        Self { name, image, chunk, roles, bindings }
+        let diagnostics = vec![0; DIAGNOSTIC_LEN * MOST_DIAGNOSTICS];
+        let (mut chunk, incoming) = decode(&image);
+        let found = added(&chunk.diagnostics, incoming).len();
+        chunk.diagnostics.truncate(incoming);
+        Self { name, image, chunk, roles, bindings, diagnostics, found }
     }
 
     pub fn rows(&self) -> usize {
@@ -43,9 +53,12 @@ impl Case {
         self.image.words.len() / 4
     }
 
-    /// The number of binding records.
-    pub fn records(&self) -> usize {
+    pub fn upvalues(&self) -> usize {
         self.bindings.len() / BINDING_LEN
+    }
+
+    pub fn diagnostics(&self) -> usize {
+        self.found
     }
 
     /// The roles call by the proved code.
@@ -58,6 +71,22 @@ impl Case {
         black_box(calls::bindings(black_box(&self.image), black_box(&mut self.roles), black_box(&mut self.bindings)))
     }
 
+    /// The check call by the proved code, with room for so many diagnostics.
+    fn check_with(&mut self, room: usize) -> u64 {
+        let diagnostics = &mut self.diagnostics[..DIAGNOSTIC_LEN * room];
+        black_box(calls::check(black_box(&self.image), black_box(&mut self.roles), black_box(diagnostics)))
+    }
+
+    /// The same with room for the most diagnostics that there can be, so that the image is walked once.
+    pub fn check(&mut self) -> u64 {
+        self.check_with(MOST_DIAGNOSTICS)
+    }
+
+    /// The same with a buffer that fits exactly, so that an image with diagnostics is walked twice.
+    pub fn check_exact(&mut self) -> u64 {
+        self.check_with(self.found)
+    }
+
     /// What the roles call does, by luad.
     pub fn luad_roles(&mut self) {
         model::discover(black_box(&self.chunk.main_proto));
@@ -68,44 +97,56 @@ impl Case {
         model::bind(black_box(&mut self.chunk.main_proto));
     }
 
-    /// Says where a call did not accept the image with so many records.
-    fn accepted(&self, result: u64, records: usize) -> Result<(), String> {
-        let (refusal, figure) = (result >> 32, result as u32);
-        match result == records as u64 {
+    /// What the check call does, by luad, which finds the roles of the prototypes that it comes to.
+    pub fn luad_check(&mut self) {
+        black_box(validate_chunk_lua51(black_box(&self.chunk)));
+    }
+
+    /// Says where a call did not accept the image with so many records and this verdict.
+    fn accepted(&self, result: u64, records: usize, verdict: u64) -> Result<(), String> {
+        let (found, refusal, figure) = (result >> 40, result >> 32 & 0xff, result as u32);
+        match result == verdict << 40 | records as u64 {
             true => Ok(()),
-            false => Err(format!("{}: refusal {refusal} and figure {figure}, not 0 and {records}", self.name)),
+            false => Err(format!(
+                "{}: refusal {refusal}, figure {figure} and verdict {found}, not 0, {records} and {verdict}",
+                self.name
+            )),
         }
     }
 
-    /// Says which is the first record that is not luad's. Each row has as many as `count` tells, and `number` is what
-    /// they are counted by.
+    /// Says which is the first record that is not luad's; `place` tells where it is.
     fn same<T: PartialEq + Debug>(
         &self,
         ours: &[T],
         luads: &[T],
-        count: fn(&Proto) -> u32,
-        number: &str,
+        place: impl Fn(usize) -> String,
     ) -> Result<(), String> {
         assert_eq!(ours.len(), luads.len(), "{}: the records of the buffer and luad's", self.name);
         let Some(at) = ours.iter().zip(luads).position(|(ours, luads)| ours != luads) else { return Ok(()) };
+        Err(format!("{}: {}: the record is {:?}, luad's is {:?}", self.name, place(at), ours[at], luads[at]))
+    }
+
+    /// The row of a record and its number there. Each row has as many as `count` tells, and `number` is what they are
+    /// counted by.
+    fn place(&self, at: usize, count: fn(&Proto) -> u32, number: &str) -> String {
         let table = rows(&self.image.protos);
         let mut places = table.iter().enumerate().flat_map(|(row, proto)| (0..count(proto)).map(move |i| (row, i)));
         let (row, i) = places.nth(at).expect("a row that has the record");
-        Err(format!("{}: row {row}, {number} {i}: the record is {:?}, luad's is {:?}", self.name, ours[at], luads[at]))
+        format!("row {row}, {number} {i}")
     }
 
     /// Says where the role buffer is not luad's roles.
     fn same_roles(&self) -> Result<(), String> {
         let protos = preorder(&self.chunk.main_proto);
         assert_eq!(protos.len(), self.rows(), "{}: luad's prototypes and the rows", self.name);
-        self.same(&records(&self.roles), &roles(&protos), |proto| proto.words, "pc")
+        self.same(&records(&self.roles), &roles(&protos), |at| self.place(at, |proto| proto.words, "pc"))
     }
 
     /// Says where the roles call does not answer as luad.
     pub fn compare_roles(&mut self) -> Result<(), String> {
         self.roles.fill(UNWRITTEN);
         let result = self.roles();
-        self.accepted(result, self.words())?;
+        self.accepted(result, self.words(), 0)?;
         self.same_roles()
     }
 
@@ -120,15 +161,36 @@ impl Case {
         self.roles.fill(UNWRITTEN);
         self.bindings.fill(UNWRITTEN);
         let result = self.bindings();
-        self.accepted(result, self.records())?;
+        self.accepted(result, self.upvalues(), 0)?;
         self.same_roles()?;
         let loaded = self.model_bindings();
-        self.same(&records(&self.bindings), &loaded, |proto| proto.upvalues, "upvalue")?;
+        let place = |at| self.place(at, |proto| proto.upvalues, "upvalue");
+        self.same(&records(&self.bindings), &loaded, place)?;
         model::unbind(&mut self.chunk.main_proto);
         self.luad_bindings();
         match loaded == self.model_bindings() {
             true => Ok(loaded.iter().filter(|[.., pc]| *pc != -1).count()),
             false => Err(format!("{}: luad's loop as transcribed binds otherwise than its loading", self.name)),
         }
+    }
+
+    /// Says where the check call, with more room than it needs and with just enough, does not answer as luad.
+    pub fn compare_check(&mut self) -> Result<(), String> {
+        let (verdict, all) = validate_chunk_lua51(&self.chunk);
+        let added = added(&all, self.chunk.diagnostics.len());
+        let luads = diagnostics(added, &preorder(&self.chunk.main_proto));
+        for room in [MOST_DIAGNOSTICS, luads.len()] {
+            self.roles.fill(UNWRITTEN);
+            self.diagnostics.fill(UNWRITTEN);
+            let result = self.check_with(room);
+            self.accepted(result, luads.len(), verdict as u64)?;
+            self.same_roles()?;
+            let (ours, past) = self.diagnostics.split_at(DIAGNOSTIC_LEN * luads.len());
+            self.same(&records(ours), &luads, |at| format!("diagnostic {at}"))?;
+            if past.iter().any(|byte| *byte != UNWRITTEN) {
+                return Err(format!("{}: a byte past the diagnostics is written", self.name));
+            }
+        }
+        Ok(())
     }
 }

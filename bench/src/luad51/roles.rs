@@ -1,6 +1,6 @@
 //! The roles call, against luad's `discover_roles_lua51` on every prototype of the same image.
 use super::case::Case;
-use super::images::IMAGES;
+use super::images::{GROWTH, IMAGES};
 use super::table::Benchmark;
 
 const BENCHMARK: Benchmark<1> = Benchmark {
@@ -9,6 +9,9 @@ const BENCHMARK: Benchmark<1> = Benchmark {
     luad: Case::luad_roles,
     ratios: &[1],
     compare: Case::compare_roles,
+    counted: ("upvalues", Case::upvalues),
+    images: &IMAGES,
+    growth: &GROWTH,
 };
 
 pub fn time() -> Result<(), String> {

@@ -1,6 +1,6 @@
 //! A table of the times of calls on every image.
 use super::case::Case;
-use super::images::{GROWTH, IMAGES};
+use super::images::Named;
 use crate::timing::{seconds, turns_about};
 use answers::image::Image;
 
@@ -13,6 +13,11 @@ pub struct Benchmark<const N: usize> {
     pub ratios: &'static [usize],
     /// Says where our answer is not luad's.
     pub compare: fn(&mut Case) -> Result<(), String>,
+    /// What else than rows and words is counted in an image.
+    pub counted: (&'static str, fn(&Case) -> usize),
+    pub images: &'static [Named<fn() -> Image>],
+    /// The images of any number of words whose times show how they grow.
+    pub growth: &'static [Named<fn(usize) -> Image>],
 }
 
 /// The width of a column of times or ratios.
@@ -35,10 +40,11 @@ impl<const N: usize> Benchmark<N> {
         let names = [&self.names[..], &["luad"]].concat();
         let (times, ratios) = (WIDTH * names.len(), WIDTH * self.ratios.len());
         let ratio = format!("{} to", self.names[N - 1]);
-        println!("{:62}{:>times$}{ratio:>ratios$}{:>times$}", "", "ms in all", "ns a word");
+        println!("{:65}{:>times$}{ratio:>ratios$}{:>times$}", "", "ms in all", "ns a word");
         let times = columns(&names, |name| name.to_string());
         let ratios = columns(self.ratios, |time| names[*time].to_string());
-        println!("{:30}{:>7}{:>9}{:>9}{:>7}{times}{ratios}{times}", "image", "rows", "words", "upvalues", "turns");
+        let counted = self.counted.0;
+        println!("{:30}{:>7}{:>9}{counted:>12}{:>7}{times}{ratios}{times}", "image", "rows", "words", "turns");
     }
 
     /// Compares and times an image, prints its line, and gives the times, luad's last.
@@ -50,10 +56,10 @@ impl<const N: usize> Benchmark<N> {
         let (ours, luad) = turns_about(turns, &mut case, self.ours, self.luad);
         let times = [&ours[..], &[luad]].concat();
         println!(
-            "{name:30}{:7}{:9}{:9}{turns:7}{}{}{}",
+            "{name:30}{:7}{:9}{:12}{turns:7}{}{}{}",
             case.rows(),
             case.words(),
-            case.records(),
+            self.counted.1(&case),
             columns(&times, |time| format!("{:.3}", time * 1e3)),
             columns(self.ratios, |time| format!("{:.2}", ours[N - 1] / times[*time])),
             columns(&times, |time| format!("{:.2}", time * 1e9 / case.words() as f64)),
@@ -64,12 +70,12 @@ impl<const N: usize> Benchmark<N> {
     /// Prints the table of all images, and gives the times, luad's last.
     pub fn time_images(&self) -> Result<Vec<Vec<f64>>, String> {
         self.heading();
-        IMAGES.iter().map(|(name, make)| self.measure(name, make())).collect()
+        self.images.iter().map(|(name, make)| self.measure(name, make())).collect()
     }
 
     /// Prints how the times grow with the words.
     pub fn time_growth(&self) -> Result<(), String> {
-        for (name, make) in GROWTH {
+        for (name, make) in self.growth {
             for words in [10_000, 100_000, 1_000_000] {
                 self.measure(name, make(words))?;
             }

@@ -2,7 +2,7 @@
 use Prim.Native.Nat.{ℕ, suc, _+_, _-_, _*_, _%_, _^_, _≤_, _<_}
 use mathlib.Core.Path.{_≡_, refl, sym, _∙_, ap}
 use lib.Dec.{leb}
-use mathlib.Core.Bool.{Bool, true, false, _||_, not, cond, or-true, or-false as Bool·or-false, true≢false, false≢true}
+use mathlib.Core.Bool.{Bool, true, false, _&&_, _||_, not, cond, or-true, or-false as Bool·or-false, true≢false, false≢true}
 use mathlib.Core.List.{List, [], _∷_, _++_, flatten, foldl, append-assoc, foldl-append}
 use borrow.Author.Tests.{le-leb, lt-leb, eq-eqb, ne-eqb}
 use lib.IntN.{ℤ, pos, negsuc}
@@ -88,22 +88,14 @@ module _ (row : ℕ) where
 
 -- ---- operands that are not below their limit
 
--- an operand that is not named, one that is below, and one that is not
-module _ (row pc code limit value : ℕ) (s : State) where
-  pub not-named : (b : Bool) → not b ≡ true → s ≡ emitAll row (notBelow pc code limit (only b value)) s
-  unfolding emitAll notBelow only
-  not-named true e = absurd (false≢true e)
-  not-named false e = refl
-
-  pub named-below : (b : Bool) → not b ≡ false → value < limit → s ≡ emitAll row (notBelow pc code limit (only b value)) s
-  unfolding emitAll notBelow only
-  named-below true e h = rw (lt-leb limit value h)
-  named-below false e h = absurd (true≢false e)
-
-  pub named-not-below : (b : Bool) (t : State) → not b ≡ false → limit ≤ value → t ≡ emitted row pc code value s → t ≡ emitAll row (notBelow pc code limit (only b value)) s
-  unfolding emitAll emit i32Bits notBelow only
-  named-not-below true t e h g = rw (le-leb limit value h) g
-  named-not-below false t e h g = absurd (true≢false e)
+pub emits-over : (row pc code limit value : ℕ) (s : State) (named over : Bool) → over ≡ (named && leb limit value) → emittedIf over row pc code value s ≡ emitAll row (notBelow pc code limit (only named value)) s
+unfolding emittedIf notBelow only
+emits-over row pc code limit value s named over e = rw e (go named (leb limit value) refl)
+  where
+    go : (n b : Bool) → leb limit value ≡ b → emittedIf (n && b) row pc code value s ≡ emitAll row (notBelow pc code limit (only n value)) s
+    go true true q = rw q (emits-word row pc code value s)
+    go true false q = rw q (emits-none row s)
+    go false b q = emits-none row s
 
 -- ---- a condition, by the answer of its negation
 

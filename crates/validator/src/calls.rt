@@ -122,8 +122,8 @@ fn validate_rows(
     let start = WalkState {
         row: 0,
         first: 0,
-        stop: stop_count(warnings, errors),
         count: 0,
+        stop: stop_count(warnings, errors),
         error: false,
         limit: false,
     };
@@ -131,14 +131,14 @@ fn validate_rows(
 }
 
 // How many diagnostics end the walk at a test, after those that came in.
-fn stop_count(warnings: u32, errors: u32) -> u32
+fn stop_count(warnings: u32, errors: u32) -> u16
     ensures { λ r. ⌜ r ≡ MAX-DIAGNOSTICS - (warnings + errors) ⌝ }
 {
     let incoming = (warnings as u64) + (errors as u64);
     if MAX_DIAGNOSTICS <= incoming {
         return 0;
     }
-    (MAX_DIAGNOSTICS - incoming) as u32
+    (MAX_DIAGNOSTICS - incoming) as u16
 }
 
 // The verdict of a walk, and the number of its diagnostics.

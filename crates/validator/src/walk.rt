@@ -2,9 +2,11 @@
 use crate::codes::L51_STACK_001;
 use opcodes::bytes::write_record;
 use std::num::wrapping_add_u32;
+ghost use mathlib.Core.Bool.{_&&_};
 ghost use mathlib.Core.Path.{_≡_};
 ghost use Prim.Native.Nat.{_<_};
 ghost use mathlib.Core.List.{[], _∷_};
+ghost use lib.Dec.{leb};
 ghost use lib.IntN.{pos};
 ghost use Rattle.opcodes.specs.Lists.{only};
 ghost use Rattle.verdict.specs.Diagnostics.{diagnostic, notBelow, testedStep};
@@ -14,12 +16,12 @@ ghost use Rattle.validator.specs.Steps.{advance, emitAll, emitted, emitt
 pub const DIAGNOSTIC_BYTES: usize = 16;
 
 // The next row and the index of its first word; how many diagnostics were found, and how many of them end the walk at a test; whether one is an
-// error; whether a test ended the walk.
+// error; whether a test ended the walk. (The fields leave no gap: copies of one would cost more than all tests of a word.)
 pub struct WalkState {
     pub row: usize,
     pub first: usize,
-    pub stop: u32,
     pub count: u32,
+    pub stop: u16,
     pub error: bool,
     pub limit: bool,
 }
@@ -29,7 +31,7 @@ impl WalkState {
     pub fn tested(mut self) -> WalkState
         ensures { λ r. ⌜ r ≡ testedOf self ⌝ }
     {
-        if self.stop <= self.count {
+        if self.stop as u32 <= self.count {
             self.limit = true;
         }
         self
@@ -101,12 +103,16 @@ impl WalkState {
     ) -> WalkState
         ensures { λ r. ⌜ (r, now (out .exit)) ≡ emitAll row (notBelow pc code limit (only named value)) (self, now (out .entry)) ⌝ }
     {
-        if !named {
-            return self;
-        }
-        if value < limit {
-            return self;
-        }
-        self.emit(out, row, pc, code, value)
+        self.emit_if(out, row, pc, code, is_over(named, value, limit), value)
     }
+}
+
+// Whether an operand is named and not below its limit. (An answer apart from the write, so that a clean word costs one branch that is always taken.)
+fn is_over(named: bool, value: u32, limit: u32) -> bool
+    ensures { λ r. ⌜ r ≡ named && leb limit value ⌝ }
+{
+    if named {
+        return limit <= value;
+    }
+    false
 }

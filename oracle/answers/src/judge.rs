@@ -138,13 +138,20 @@ fn record(diagnostic: &Diagnostic, protos: &[Placed], row_of: &HashMap<ProtoPath
     [row as i32, pc, code, value]
 }
 
-/// The diagnostics that the validation added: without the incoming ones and the line on the limit.
-fn added(chunk: &Chunk, incoming: usize) -> &[Diagnostic] {
-    let added = &chunk.diagnostics[incoming..];
+/// The diagnostics that a validation added: without the incoming ones and the line on the limit.
+pub fn added(diagnostics: &[Diagnostic], incoming: usize) -> &[Diagnostic] {
+    let added = &diagnostics[incoming..];
     match added.last() {
         Some(last) if last.code == "CORE-LIMIT-003" => &added[..added.len() - 1],
         _ => added,
     }
+}
+
+/// The four numbers of each diagnostic that was added.
+pub fn diagnostics(added: &[Diagnostic], protos: &[Placed]) -> Vec<[i32; 4]> {
+    let row_of: HashMap<ProtoPath, usize> =
+        protos.iter().enumerate().map(|(row, (proto, _))| (proto.path.clone(), row)).collect();
+    added.iter().map(|diagnostic| record(diagnostic, protos, &row_of)).collect()
 }
 
 /// The chunk that luad makes of an image that has none of the refusals 1 to 6, and the number of its incoming
@@ -162,8 +169,6 @@ pub fn judge(image: &Image) -> Answer {
     let (chunk, incoming) = decode(image);
     let protos = preorder(&chunk.main_proto);
     assert_eq!(protos.len(), image.protos.len() / ROW_LEN, "a prototype for each row");
-    let row_of: HashMap<ProtoPath, usize> =
-        protos.iter().enumerate().map(|(row, (proto, _))| (proto.path.clone(), row)).collect();
-    let diagnostics = added(&chunk, incoming).iter().map(|diagnostic| record(diagnostic, &protos, &row_of)).collect();
+    let diagnostics = diagnostics(added(&chunk.diagnostics, incoming), &protos);
     Answer { verdict: chunk.verdict, roles: roles(&protos), bindings: bindings(&protos), diagnostics }
 }

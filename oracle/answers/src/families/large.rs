@@ -215,6 +215,17 @@ fn add_far(list: &mut List) {
     list.push("far", EXACT, image(&nest));
 }
 
+/// As many rows as there can be, as deep as they can be: a chain, and under its end all others, the last one named.
+fn add_deep_and_wide(list: &mut List) {
+    let children = ROWS as u32 - 199;
+    let mut sources = chain(199, 0, &[RETURN]);
+    sources[198].code = vec![closure(0, children - 1), closure(0, children), RETURN];
+    sources.extend(times(&[main(&[RETURN]).at(199)], children as usize));
+    sources[ROWS - 1].code[0] = BAD;
+    sources[ROWS - 1].stack = 251;
+    list.push("deep", EXACT, image(&sources));
+}
+
 pub fn add(list: &mut List) {
     add_deep(list);
     add_wide(list);
@@ -225,4 +236,5 @@ pub fn add(list: &mut List) {
     add_random(list);
     add_too_large(list);
     add_far(list);
+    add_deep_and_wide(list);
 }

@@ -5,7 +5,7 @@ use crate::rng::Rng;
 use crate::word::{abc, bind_register, closure, op, setlist_long, RETURN};
 
 /// A word with one diagnostic: no known opcode.
-const BAD: u32 = 63;
+pub const BAD: u32 = 63;
 /// A word with three: ADD of registers 9.
 const THREE: u32 = op::ADD | 9 << 6 | 9 << 14 | 9 << 23;
 
@@ -16,7 +16,7 @@ fn five() -> Vec<u32> {
     code
 }
 
-fn row(depth: u32, stack: u32, code: &[u32]) -> Source {
+pub fn row(depth: u32, stack: u32, code: &[u32]) -> Source {
     Source::main(0, 0, stack, code).at(depth)
 }
 

@@ -4,6 +4,7 @@ mod boundaries;
 mod closures;
 mod large;
 mod limit;
+mod mixed;
 mod opcodes;
 mod random;
 mod refused;
@@ -11,7 +12,7 @@ mod setlist;
 mod shapes;
 mod short;
 mod targets;
-mod valid;
+pub mod valid;
 pub mod worked;
 
 use crate::calls::Calls;
@@ -40,6 +41,7 @@ pub fn small(seed: u64, visit: &mut dyn FnMut(&Image, &Calls)) {
     valid::add(&mut list);
     random::add(&mut list);
     bits_of_fields::add(&mut list);
+    mixed::add_small(&mut list);
 }
 
 /// Hands on every short code; these are not in the fixed list.
@@ -49,5 +51,7 @@ pub fn short(visit: &mut dyn FnMut(&Image, &Calls)) {
 
 /// Hands on the large images.
 pub fn large(seed: u64, visit: &mut dyn FnMut(&Image, &Calls)) {
-    large::add(&mut List::new(seed, visit));
+    let mut list = List::new(seed, visit);
+    large::add(&mut list);
+    mixed::add_large(&mut list);
 }

@@ -7,11 +7,18 @@ use crate::word::{abc, abx, bind_register, bind_upvalue, closure, jump, op, setl
 
 /// What stands at a pc of a valid prototype.
 #[derive(Clone, Copy, PartialEq)]
-enum Slot {
+pub enum Slot {
     Plain,
     Closure(u32),
+    Binding,
     Setlist,
-    Companion,
+    Extra,
+}
+
+impl Slot {
+    fn is_companion(self) -> bool {
+        matches!(self, Slot::Binding | Slot::Extra)
+    }
 }
 
 /// Owners with their companions, and plain words; the last one is plain.
@@ -22,9 +29,9 @@ fn slots(rng: &mut Rng, words: usize, child_upvalues: &[u32]) -> Vec<Slot> {
             0 if !child_upvalues.is_empty() => {
                 let child = rng.below(child_upvalues.len() as u32);
                 slots.push(Slot::Closure(child));
-                slots.extend(vec![Slot::Companion; child_upvalues[child as usize] as usize]);
+                slots.extend(vec![Slot::Binding; child_upvalues[child as usize] as usize]);
             }
-            1 => slots.extend([Slot::Setlist, Slot::Companion]),
+            1 => slots.extend([Slot::Setlist, Slot::Extra]),
             _ => slots.push(Slot::Plain),
         }
     }
@@ -56,12 +63,12 @@ impl Site<'_> {
 
     /// A skip from here does not come to a companion.
     fn may_skip(&self) -> bool {
-        self.slots.get(self.pc + 2) != Some(&Slot::Companion)
+        !self.slots.get(self.pc + 2).is_some_and(|slot| slot.is_companion())
     }
 
     /// A pc that is not a companion's.
     fn target(&self, rng: &mut Rng) -> i32 {
-        let open: Vec<usize> = (0..self.slots.len()).filter(|pc| self.slots[*pc] != Slot::Companion).collect();
+        let open: Vec<usize> = (0..self.slots.len()).filter(|pc| !self.slots[*pc].is_companion()).collect();
         rng.pick(&open) as i32
     }
 
@@ -102,21 +109,20 @@ fn bind(rng: &mut Rng, site: &Site) -> u32 {
     }
 }
 
-/// The code of a valid prototype.
-fn code(rng: &mut Rng, proto: &Source, slots: &[Slot]) -> Vec<u32> {
+/// The code of a valid prototype whose slots end with a plain one; plain words have the opcodes that `opcode` draws.
+pub fn code(rng: &mut Rng, proto: &Source, slots: &[Slot], opcode: fn(&mut Rng) -> u32) -> Vec<u32> {
     let Source { constants, upvalues, stack, .. } = *proto;
     let mut code = Vec::new();
     for (pc, slot) in slots.iter().enumerate() {
         let site = Site { slots, pc, constants, upvalues, stack };
-        let owner = slots[..pc].iter().rev().find(|slot| **slot != Slot::Companion);
         code.push(match slot {
             Slot::Closure(child) => closure(site.register(rng), *child),
             Slot::Setlist => setlist_long(0, rng.below(stack)),
-            Slot::Companion if owner == Some(&Slot::Setlist) => rng.bits() as u32,
-            Slot::Companion => bind(rng, &site),
+            Slot::Extra => rng.bits() as u32,
+            Slot::Binding => bind(rng, &site),
             Slot::Plain if pc + 1 == slots.len() => RETURN,
             Slot::Plain => loop {
-                let opcode = rng.below(38);
+                let opcode = opcode(rng);
                 if let Some(word) = site.word(rng, opcode) {
                     break word;
                 }
@@ -145,7 +151,7 @@ pub fn sources(rng: &mut Rng, rows: u32, words: u32) -> Vec<Source> {
     for row in 0..sources.len() {
         let words = rng.range(0, words) as usize;
         let slots = slots(rng, words, &child_upvalues(&sources, row));
-        sources[row].code = code(rng, &sources[row], &slots);
+        sources[row].code = code(rng, &sources[row], &slots, |rng| rng.below(38));
     }
     sources
 }

@@ -1,23 +1,23 @@
 -- The companions of a CLOSURE: what each adds, and that they are those up to the next executable word. Assumes nothing.
-use Prim.Native.Nat.{ℕ, zero, suc, _+_, _-_, _*_, _/_, _≤_, _<_, min}
+use Prim.Native.Nat.{ℕ, _+_, _-_, _*_, _/_, _≤_, _<_}
 use native.Mathlib.Omega.{arith}
 use native.Mathlib.Nat.{add-zero}
-use mathlib.Core.Path.{_≡_, refl, sym, _∙_, ap, ap₂, subst}
+use mathlib.Core.Path.{_≡_, refl, sym, _∙_, ap, ap₂}
 use mathlib.Core.Bool.{Bool, true, false, _&&_, not, cond, or-false, true≢false, false≢true}
 use mathlib.Core.List.{List, [], _∷_, _++_, flatMap, flatten, append-nil}
 use lib.Dec.{T, eqb, ltb, leb}
 use lib.IntN.{pos, negsuc}
-use lib.ListN.{length, getD, length-append, List·getD-eq-default}
+use lib.ListN.{length, getD, List·getD-eq-default}
 use borrow.Author.Tests.{leb-true, leb-false, ltb-true, ltb-false, lt-ltb}
-use Rattle.opcodes.specs.Bytes.{u32At, u32s, i32Bits}
+use Rattle.opcodes.specs.Bytes.{u32At, i32Bits}
 use Rattle.opcodes.specs.Lists.{elem, only, upFrom}
-use Rattle.opcodes.specs.Words.{B, opcode, operand, is, decoded, CLOSURE, SETLIST, MOVE, GETUPVAL}
+use Rattle.opcodes.specs.Words.{B, opcode, operand, is, decoded, CLOSURE, SETLIST}
 use Rattle.opcodes.specs.declared.RawInstruction51.{RawInstruction51}
 use Rattle.opcodes.proofs.ByteLaws.{getD-u32s, length-u32s}
-use Rattle.opcodes.proofs.ListLaws.{flatMap-append, upFrom-append, length-tabulate}
+use Rattle.opcodes.proofs.ListLaws.{flatMap-append, upFrom-append}
 use Rattle.opcodes.proofs.TestLaws.{T-true, is-not}
 use Rattle.roles.specs.Contracts.{roleIn}
-use Rattle.roles.specs.Roles.{Role, Instruction, ClosureBinding, isExecutable, Executable, executableAt, roleAt, wordAt, roles, claims, owned, existing, companions, bindingCount, bindingWords, hasExtra, roleBytes}
+use Rattle.roles.specs.Roles.{Role, Instruction, isExecutable, Executable, executableAt, roleAt, wordAt, roles, owned, existing, companions, bindingCount, bindingWords, hasExtra}
 use Rattle.roles.specs.Table.{Proto}
 use Rattle.roles.proofs.RoleBufferLaws.{length-roles}
 use Rattle.roles.proofs.RoleLaws.{exists, next-executable, owned-count, companion-unexecutable}

@@ -2,9 +2,9 @@
 use Prim.Native.Nat.{ℕ, suc, _+_, _-_, _*_, _/_, _≤_, _<_}
 use native.Mathlib.Nat.{add-zero}
 use native.Mathlib.Omega.{arith}
-use mathlib.Core.Path.{_≡_, refl, sym, _∙_, ap, ap₂, subst}
-use mathlib.Core.Bool.{Bool, true, false}
-use mathlib.Core.List.{List, [], _∷_, flatMap}
+use mathlib.Core.Path.{_≡_, sym, _∙_, ap, subst}
+use mathlib.Core.Bool.{false}
+use mathlib.Core.List.{List, flatMap}
 use mathlib.Core.Option.{Option, none, some}
 use lib.ListN.{length, getD, take, drop, length-drop}
 use lib.Seq.{getD-drop, length-take-le}
@@ -12,8 +12,8 @@ use borrow.Author.Tests.{lt-ltb, le-ltb}
 use Rattle.opcodes.specs.Bytes.{u32s, i32Record, u32Record, overwrite}
 use Rattle.opcodes.proofs.ByteLaws.{length-u32s, length-overwrite, overwrite-none}
 use Rattle.roles.specs.Contracts.{refusedOf, answerOf as rolesAnswerOf, protoIn, roleIn}
-use Rattle.roles.specs.Calls.{Answer, answer, refused, accepted, filled, rolesAnswer, rolesAfter}
-use Rattle.roles.specs.Refusals.{Refused, orElse, refuse, refuseIf, tooShort, rolesRefusal, imageRefusal, wordTotal}
+use Rattle.roles.specs.Calls.{answer, refused, accepted, filled, rolesAnswer, rolesAfter}
+use Rattle.roles.specs.Refusals.{Refused, orElse, refuse, refuseIf, tooShort, rolesRefusal, wordTotal}
 use Rattle.roles.specs.Roles.{roleAt, roleBytes, recordsOf, roles}
 use Rattle.roles.specs.Table.{Row, Proto, rowBytes, rowAt, rows, protos, protosOf, protoOf}
 use Rattle.roles.specs.declared.calls.Answer.{Answer as Answered}
@@ -37,7 +37,7 @@ use Rattle.validator.specs.Steps.{State, Filled, Ready, Walked, stepRow,
 use Rattle.validator.specs.declared.calls.Validation.{Validation}
 use Rattle.validator.specs.declared.calls.Validation.the-variants as validation
 use Rattle.validator.specs.declared.walk.WalkState.{WalkState}
-use Rattle.validator.proofs.WalkedLaws.{begun, image-walked, walked-fits, walked-none, walked-concluded, walked-empty}
+use Rattle.validator.proofs.WalkedLaws.{begun, image-walked, walked-concluded, walked-empty}
 
 -- ---- the roles are filled in
 

@@ -2,14 +2,14 @@
 use Prim.Native.Nat.{ℕ, suc, _+_, _-_, _*_, _%_, _^_, _≤_, _<_}
 use mathlib.Core.Path.{_≡_, refl, sym, _∙_, ap}
 use lib.Dec.{leb}
-use mathlib.Core.Bool.{Bool, true, false, _&&_, _||_, not, cond, or-true, or-false as Bool·or-false, true≢false, false≢true}
-use mathlib.Core.List.{List, [], _∷_, _++_, flatten, foldl, append-assoc, foldl-append}
+use mathlib.Core.Bool.{Bool, true, false, _&&_, _||_, not, or-true, or-false as Bool·or-false, true≢false, false≢true}
+use mathlib.Core.List.{List, [], _∷_, _++_, flatten, append-assoc, foldl-append}
 use borrow.Author.Tests.{le-leb, lt-leb, eq-eqb, ne-eqb}
-use lib.IntN.{ℤ, pos, negsuc}
+use lib.IntN.{pos, negsuc}
 use Rattle.opcodes.specs.Bytes.{u32Record, i32Bits, overwrite}
-use Rattle.opcodes.specs.Lists.{only, select}
+use Rattle.opcodes.specs.Lists.{only}
 use Rattle.opcodes.proofs.TestLaws.{or-false}
-use Rattle.verdict.specs.Diagnostics.{Diagnostic, diagnostic, notBelow, testedStep, untestedStep}
+use Rattle.verdict.specs.Diagnostics.{Diagnostic, diagnostic, notBelow, testedStep}
 use Rattle.validator.specs.declared.walk.WalkState.{WalkState}
 use Rattle.validator.specs.Steps.{State, emitted, emittedIf, emit, emitAll, ended, testedOf, advance}
 
@@ -29,12 +29,7 @@ module _ (s : State) (row pc code value n : ℕ) (new : List ℕ)
   unfolding emitted
   emitted-warning e = rw (counted, stored, eq-eqb code 3 e, Bool·or-false)
 
--- a diagnostic is added by the bits of its fields
-pub emits-one : (row : ℕ) (d : Diagnostic) (s : State) → emitted row (i32Bits (d .pc)) (d .code) (i32Bits (d .value)) s ≡ emitAll row (d ∷ []) s
-unfolding emitAll emit
-emits-one row d s = refl
-
--- at a word, with a value that is not negative
+-- a diagnostic of a word, with a value that is not negative
 pub emits-word : (row pc code value : ℕ) (s : State) → emitted row pc code value s ≡ emitAll row (diagnostic pc code (pos value) ∷ []) s
 unfolding emitAll emit i32Bits
 emits-word row pc code value s = refl

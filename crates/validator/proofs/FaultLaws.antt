@@ -99,9 +99,6 @@ owner-of p pc h =
     let v = has-owner p pc h in
     subst (λ (o : ℕ). Owns p o pc) (sym (owner-is p (v .place) pc h (v .owns))) (v .owns)
 
-pub owner-executable : (p : Proto) (pc : ℕ) → pc < length (p .code) → Executable p (lastOwner pc (roleAt p pc)) × (lastOwner pc (roleAt p pc) ≤ pc)
-owner-executable p pc h = (owner-of p pc h .executes, owner-of p pc h .after)
-
 -- ---- truncated owners
 
 -- lists of which only that of one number has entries

@@ -1,12 +1,11 @@
 -- All diagnostics of a word, whose opcode is known or not. Assumes nothing.
-use Prim.Native.Nat.{ℕ, zero, suc, _+_, _*_, _/_, _<_}
+use Prim.Native.Nat.{ℕ, zero, suc, _+_, _<_}
 use native.Mathlib.Nat.{not-suc-le-zero, le-of-suc-le-suc}
 use native.Mathlib.Omega.{arith}
 use mathlib.Core.Path.{_≡_, refl, sym, _∙_, ap, subst}
-use mathlib.Core.Bool.{Bool, true, false, cond}
-use mathlib.Core.List.{List, [], _∷_, _++_, flatMap, flatten}
+use mathlib.Core.Bool.{Bool, true, false}
+use mathlib.Core.List.{List, [], _∷_, flatMap, flatten}
 use lib.Dec.{T, ltb}
-use lib.IntN.{pos}
 use lib.ListN.{length}
 use borrow.Author.Tests.{le-ltb, ltb-false}
 use Rattle.opcodes.specs.Lists.{elem, only, upFrom}
@@ -18,7 +17,7 @@ use Rattle.opcodes.proofs.OpcodeLaws.{known-below}
 use Rattle.opcodes.proofs.TestLaws.{by-cond}
 use Rattle.roles.specs.Roles.{executableAt, wordAt, bindingCount, bindingWords, existing}
 use Rattle.roles.specs.Table.{Proto}
-use Rattle.verdict.specs.Diagnostics.{Diagnostic, diagnostic, opcodeDiagnostics, jumpDiagnostics, skipDiagnostics, operandDiagnostics, bindingDiagnostics, knownDiagnostics, wordDiagnostics}
+use Rattle.verdict.specs.Diagnostics.{opcodeDiagnostics, jumpDiagnostics, skipDiagnostics, operandDiagnostics, bindingDiagnostics, knownDiagnostics, wordDiagnostics}
 use Rattle.verdict.specs.Operands.{isUnknown}
 use Rattle.validator.specs.Contracts.{Decodes}
 use Rattle.validator.specs.Steps.{State, emitted, emitAll}

@@ -1,5 +1,5 @@
 -- A prototype's own steps: its truncated owner, its stack, and its words one after another. Assumes nothing.
-use Prim.Native.Nat.{ℕ, suc, _+_, _-_, _*_, _/_, _≤_, _<_}
+use Prim.Native.Nat.{ℕ, suc, _+_, _-_, _/_, _≤_, _<_}
 use native.Mathlib.Numerals.{add-one}
 use native.Mathlib.Omega.{arith}
 use mathlib.Core.Path.{_≡_, refl, sym, _∙_, ap, subst}
@@ -7,13 +7,12 @@ use mathlib.Core.Bool.{Bool, true, false, _&&_, _||_, not, cond, and-false}
 use mathlib.Core.List.{List, [], _∷_, _++_, map, flatMap, flatten, foldl, append-nil, foldl-append}
 use lib.Dec.{T, ltb, leb}
 use lib.IntN.{pos, negsuc}
-use lib.ListN.{length, take, drop}
-use borrow.Author.Tests.{lt-ltb}
-use Rattle.opcodes.specs.Bytes.{u32s, i32Bits}
-use Rattle.opcodes.specs.Lists.{only, upFrom}
+use lib.ListN.{length}
+use Rattle.opcodes.specs.Bytes.{i32Bits}
+use Rattle.opcodes.specs.Lists.{upFrom}
 use Rattle.opcodes.proofs.ByteLaws.{length-u32s}
 use Rattle.opcodes.proofs.TestLaws.{T-true}
-use Rattle.roles.specs.Contracts.{roleIn, protoIn}
+use Rattle.roles.specs.Contracts.{roleIn}
 use Rattle.roles.specs.Roles.{Role, Executable, executableAt, isExecutable, roleAt, wordAt}
 use Rattle.roles.specs.Table.{Proto}
 use Rattle.roles.proofs.RoleLaws.{executable}

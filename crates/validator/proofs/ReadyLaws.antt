@@ -3,7 +3,7 @@ use Prim.Native.Nat.{ℕ, suc, _+_, _-_, _*_, _/_, _≤_, _<_}
 use native.Mathlib.Omega.{arith}
 use mathlib.Core.Path.{_≡_, sym, _∙_, ap, ap₂, subst⁻¹}
 use mathlib.Core.List.{List, foldl}
-use lib.ListN.{length, take, drop, length-map, length-take, length-drop}
+use lib.ListN.{length, take, drop, length-map, length-take}
 use lib.Seq.{take-all, length-take-le}
 use Rattle.opcodes.specs.Bytes.{u32s}
 use Rattle.opcodes.proofs.ByteLaws.{length-u32s}

@@ -12,7 +12,6 @@ use Rattle.roles.specs.Table.{rowBytes, rowAt, rows}
 use Rattle.roles.specs.Refusals.{wordTotal}
 use Rattle.roles.specs.Contracts.{protoIn}
 use Rattle.verdict.specs.Diagnostics.{Diagnostic, Step, testedStep, protoSteps}
-use Rattle.opcodes.proofs.ByteLaws.{length-overwrite}
 use Rattle.opcodes.proofs.TestLaws.{true≢false, or-false, by-cond}
 use Rattle.roles.proofs.TotalLaws.{words-next}
 use Rattle.verdict.proofs.TreeLaws.{Begins as TestFirst, begins, proto-begins}
@@ -33,25 +32,23 @@ same : (b : Bool) (s : State) → cond b s s ≡ s
 same true s = refl
 same false s = refl
 
--- ---- what steps keep
+-- ---- what steps keep: the row and its first word
 
 pub record Kept (s t : State) : Type 0 where
   pub row : t .0 .row ≡ s .0 .row
   pub first : t .0 .first ≡ s .0 .first
-  pub stop : t .0 .stop ≡ s .0 .stop
-  pub size : length (t .1) ≡ length (s .1)
 
 kept-fold : {A : Type 0} (f : State → A → State) → ((s : State) (x : A) → Kept s (f s x)) → (s : State) (xs : List A) → Kept s (foldl f s xs)
-kept-fold f k s [] = record { row = refl; first = refl; stop = refl; size = refl }
+kept-fold f k s [] = record { row = refl; first = refl }
 kept-fold f k s (x ∷ xs) =
     let a = k s x in
     let b = kept-fold f k (f s x) xs in
-    record { row = b .row ∙ a .row; first = b .first ∙ a .first; stop = b .stop ∙ a .stop; size = b .size ∙ a .size }
+    record { row = b .row ∙ a .row; first = b .first ∙ a .first }
 
 module _ (row : ℕ) where
   emit-keeps : (s : State) (d : Diagnostic) → Kept s (emit row s d)
   unfolding emit emitted
-  emit-keeps s d = record { row = refl; first = refl; stop = refl; size = length-overwrite (s .1) _ _ }
+  emit-keeps s d = record { row = refl; first = refl }
 
   pub emitAll-keeps : (ds : List Diagnostic) (s : State) → Kept s (emitAll row ds s)
   unfolding emitAll
@@ -61,7 +58,7 @@ module _ (row : ℕ) where
   unfolding advance
   advance-keeps s step =
       by-cond (Kept s) (s .0 .limit || step .tested && leb (s .0 .stop) (s .0 .count)) (ended (s .0), s .1) (emitAll row (step .adds) s)
-      (λ t. record { row = refl; first = refl; stop = refl; size = refl })
+      (λ t. record { row = refl; first = refl })
       (λ t. emitAll-keeps (step .adds) s)
 
   steps-keep : (s : State) (steps : List Step) → Kept s (foldl (advance row) s steps)
@@ -69,15 +66,6 @@ module _ (row : ℕ) where
 
   pub steps-row : (s : State) (steps : List Step) → foldl (advance row) s steps .0 .row ≡ s .0 .row
   steps-row s steps = steps-keep s steps .row
-
-  pub steps-first : (s : State) (steps : List Step) → foldl (advance row) s steps .0 .first ≡ s .0 .first
-  steps-first s steps = steps-keep s steps .first
-
-  pub steps-stop : (s : State) (steps : List Step) → foldl (advance row) s steps .0 .stop ≡ s .0 .stop
-  steps-stop s steps = steps-keep s steps .stop
-
-  pub steps-length : (s : State) (steps : List Step) → length (foldl (advance row) s steps .1) ≡ length (s .1)
-  steps-length s steps = steps-keep s steps .size
 
   -- ---- the limit
 
@@ -185,12 +173,6 @@ module _ (table words : List ℕ) where
       (λ e. omega (arith, ap (λ (u : State). u .0 .row) (step-ended s _ refl e), own-keeps s .row))
       (λ e. omega (arith, going-row s e))
 
-  pub step-length : (s : State) → length (stepRow table words s .1) ≡ length (s .1)
-  step-length s =
-      either (ownSteps table words s .0 .limit)
-      (λ e. ap (λ (u : State). length (u .1)) (step-ended s _ refl e) ∙ own-keeps s .size)
-      (λ e. ap (λ (u : State). length (u .1)) (step-going s _ refl e) ∙ own-keeps s .size)
-
   -- ---- rows, while they are deeper
 
   pub walk-limited : (n d : ℕ) (s : State) → s .0 .limit ≡ true → walkFor table words n d s ≡ s
@@ -243,19 +225,6 @@ module _ (table words : List ℕ) where
   pub walk-to-begins : (d : ℕ) (s : State) → s .0 .row ≤ length table / rowBytes → Begins table (s .0) → Begins table (walkTo table words d s .0)
   unfolding walkTo
   walk-to-begins d s h b = walk-begins (length table / rowBytes - s .0 .row) d s (omega arith) b
-
-  -- ---- the length of the buffer
-
-  lengths : (n d : ℕ) (s : State) → length (walkFor table words n d s .1) ≡ length (s .1)
-  unfolding walkFor
-  lengths zero d s = refl
-  lengths (suc n) d s =
-      by-cond (λ (u : State). length (u .1) ≡ length (s .1)) (leb (rowAt table (s .0 .row) .depth) d) s (walkFor table words n d (stepRow table words s)) (λ t. refl)
-      (λ t. lengths n d (stepRow table words s) ∙ step-length s)
-
-  pub walk-length : (d : ℕ) (s : State) → length (walkTo table words d s .1) ≡ length (s .1)
-  unfolding walkTo
-  walk-length d s = lengths (length table / rowBytes - s .0 .row) d s
 
   -- ---- the rows that are deeper, to the last
 

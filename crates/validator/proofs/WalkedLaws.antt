@@ -30,7 +30,8 @@ use Rattle.roles.proofs.TotalLaws.{words-next}
 use Rattle.roles.proofs.RefusalLaws.{depth-kept, image-kept}
 use Rattle.verdict.proofs.TreeLaws.{advance-ended}
 use Rattle.verdict.proofs.LimitLaws.{at-most}
-use Rattle.validator.proofs.WrittenRecords.{written-append, written-fits, written-none}
+use Rattle.validator.proofs.RowLaws.{walk-limited}
+use Rattle.validator.proofs.WrittenRecords.{written-append, written-fits}
 
 -- an error among the diagnostics
 abbrev pub errorIn : RowDiagnostic → Bool
@@ -168,28 +169,6 @@ rows-ended incoming row v (steps ∷ all) e =
     ap (λ (u : Walk). walkFrom incoming (suc row) u all) (foldl-stays (advanceWalk incoming row) v (λ step. advance-ended incoming row v step e) steps)
     ∙ rows-ended incoming (suc row) v all e
 
-pub advance-stays : (row : ℕ) (s : State) (step : Step) → s .0 .limit ≡ true → advance row s step ≡ s
-unfolding advance
-advance-stays row s step e = rw e
-
-module _ (table words : List ℕ) where
-  own-stays : (s : State) → s .0 .limit ≡ true → ownSteps table words s ≡ s
-  unfolding ownSteps
-  own-stays s e = foldl-stays (advance (s .0 .row)) s (λ step. advance-stays (s .0 .row) s step e) (protoSteps (protoIn table (s .0 .row) (drop (s .0 .first) (u32s words))))
-
-  pub stepRow-stays : (s : State) → s .0 .limit ≡ true → stepRow table words s ≡ s
-  unfolding stepRow onward
-  stepRow-stays s e =
-      ap (onward (rowAt table (s .0 .row) .words)) (own-stays s e)
-      ∙ ap (λ (b : Bool). cond b s (movedTo (s .0 .first + rowAt table (s .0 .row) .words) (s .0), s .1)) e
-
-  pub walkFor-stays : (n d : ℕ) (s : State) → s .0 .limit ≡ true → walkFor table words n d s ≡ s
-  unfolding walkFor
-  walkFor-stays zero d s e = refl
-  walkFor-stays (suc n) d s e =
-      by-cond (λ (t : State). t ≡ s) (leb (rowAt table (s .0 .row) .depth) d) s _ (λ _. refl)
-      (λ _. ap (walkFor table words n d) (stepRow-stays s e) ∙ walkFor-stays n d s e)
-
 -- ---- rows
 
 -- all rows after row 0 are deeper than it
@@ -249,7 +228,7 @@ module _ (i : Image) (old : List ℕ) where
 
   -- an ended walk goes no further
   done-walked : (n d : ℕ) (s : State) → Done s → Walked i old (walkFor (i .table) (i .words) n d s)
-  done-walked n d s e = subst⁻¹ (Walked i old) (walkFor-stays (i .table) (i .words) n d s (e .limit)) (e .walked)
+  done-walked n d s e = subst⁻¹ (Walked i old) (walk-limited (i .table) (i .words) n d s (e .limit)) (e .walked)
 
   module _ (accepted : Accepted i) where
     -- row k's own steps: what they find is among all that is found, so the count fits
@@ -347,9 +326,6 @@ module _ (i : Image) (old : List ℕ) (s : State) (w : Walked i old s) where
   pub walked-fits : 16 * length (diagnostics i) ≤ length old → s .1 ≡ overwrite old 0 (i32Record (flatMap diagnosticFields (diagnostics i)))
   unfolding diagnostics
   walked-fits h = w .buffer ∙ written-fits (imageWalk i .found) old h
-
-  pub walked-none : length old < 16 → s .1 ≡ old
-  walked-none h = w .buffer ∙ written-none 0 (imageWalk i .found) old h
 
   pub walked-concluded : concluded (i .warnings) (i .errors) (s .0) ≡ checked i
   unfolding concluded checked verdict hasErrors limitReached diagnostics

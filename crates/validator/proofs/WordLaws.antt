@@ -1,15 +1,15 @@
 -- What the code finds at a word, in the terms of the definitions: its operands, its target, its skip. Assumes nothing.
 use Prim.Native.Nat.{ℕ, suc, _+_, _-_, _≤_, _<_}
 use native.Mathlib.Omega.{arith}
-use mathlib.Core.Path.{_≡_, refl, sym, _∙_, ap, ap₂, subst}
-use mathlib.Core.Bool.{Bool, true, false, _&&_, _||_, not, cond}
+use mathlib.Core.Path.{_≡_, refl, sym, _∙_, ap, ap₂}
+use mathlib.Core.Bool.{Bool, true, false, _&&_, not, cond}
 use mathlib.Core.List.{List, [], _∷_, _++_, map, map-append, flatten}
 use lib.Dec.{ltb, leb}
-use lib.IntN.{ℤ, pos, negsuc, _+ℤ_, _-ℤ_}
+use lib.IntN.{pos, negsuc, _+ℤ_, _-ℤ_}
 use lib.ListN.{length}
 use borrow.Author.Tests.{lt-ltb, le-ltb, ltb-true, ltb-false}
 use Rattle.opcodes.specs.Lists.{elem, only, keepIf, select}
-use Rattle.opcodes.specs.Words.{Field, B, C, opcode, operand, fieldA, fieldBx, is, isConstant, constantIndex, numberOf, modeOf, aIsRegister, withoutA, withSBx, withBx}
+use Rattle.opcodes.specs.Words.{Field, B, C, opcode, fieldBx, is, constantIndex, numberOf, modeOf, aIsRegister, withoutA, withSBx, withBx}
 use Rattle.opcodes.specs.declared.Opcode51.{Opcode51}
 use Rattle.opcodes.specs.declared.OpMode51.{OpMode51}
 use Rattle.opcodes.specs.declared.OpMode51.the-variants.{IABC, IABx, IAsBx}

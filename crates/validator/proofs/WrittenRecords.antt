@@ -1,5 +1,5 @@
 -- Laws of the diagnostics buffer once records were written to it one after another. Assumes nothing.
-use Prim.Native.Nat.{ℕ, suc, _+_, _*_, _≤_, _<_}
+use Prim.Native.Nat.{ℕ, suc, _+_, _*_, _≤_}
 use native.Mathlib.Nat.{add-zero, add-suc, suc-add}
 use native.Mathlib.Omega.{arith}
 use mathlib.Core.Path.{_≡_, refl, sym, ap, _∙_}
@@ -8,7 +8,7 @@ use lib.ListN.{length}
 use Rattle.opcodes.specs.Bytes.{u32Record, i32Record, overwrite}
 use Rattle.verdict.specs.Walk.{RowDiagnostic, diagnosticFields}
 use Rattle.validator.specs.Steps.{written}
-use Rattle.opcodes.proofs.ByteLaws.{length-i32Record, length-overwrite, overwrite-none, overwrite-unfit, i32Record-next}
+use Rattle.opcodes.proofs.ByteLaws.{length-i32Record, length-overwrite, overwrite-none, i32Record-next}
 use Rattle.opcodes.proofs.ListLaws.{length-flatMap}
 
 length-fields : (d : RowDiagnostic) → length (diagnosticFields d) ≡ 4
@@ -43,12 +43,3 @@ written-from k (d ∷ ds) out h =
 
 pub written-fits : (ds : List RowDiagnostic) (old : List ℕ) → 16 * length ds ≤ length old → written 0 ds old ≡ overwrite old 0 (i32Record (flatMap diagnosticFields ds))
 written-fits ds old h = written-from 0 ds old (omega arith)
-
--- where not even one fits, nothing is written
-pub written-none : (k : ℕ) (ds : List RowDiagnostic) (old : List ℕ) → length old < 16 → written k ds old ≡ old
-unfolding written
-written-none k [] old h = refl
-written-none k (d ∷ ds) old h =
-    let record-size = length-i32Record (diagnosticFields d) in
-    ap (written (suc k) ds) (overwrite-unfit old (16 * k) (i32Record (diagnosticFields d)) (omega (arith, record-size, length-fields d)))
-    ∙ written-none (suc k) ds old h

@@ -8,15 +8,14 @@ use mathlib.Core.Option.{none}
 use lib.Dec.{eqb, ltb, leb}
 use lib.ListN.{length, take, drop}
 use Rattle.opcodes.specs.Bytes.{u32s, u32Record, i32Bits, i32Record, overwrite}
-use Rattle.opcodes.specs.Lists.{any, only}
-use Rattle.roles.specs.Table.{rowBytes, rowAt, rows, protos, Proto}
+use Rattle.opcodes.specs.Lists.{any}
+use Rattle.roles.specs.Table.{rowBytes, rowAt, rows}
 use Rattle.roles.specs.Roles.{roleAt, roleBytes}
 use Rattle.roles.specs.Refusals.{wordTotal, imageRefusal}
 use Rattle.roles.specs.Contracts.{protoIn, roleIn}
 use Rattle.verdict.specs.Diagnostics.{Diagnostic, isError, Step, protoSteps}
-use Rattle.verdict.specs.Walk.{RowDiagnostic, Walk, diagnosticFields}
+use Rattle.verdict.specs.Walk.{RowDiagnostic, diagnosticFields}
 use Rattle.verdict.specs.Image.{Image, imageWalk}
-use Rattle.verdict.specs.Statements.{Accepted}
 use Rattle.validator.specs.declared.walk.WalkState.{WalkState}
 
 -- the state and the buffer

@@ -3,7 +3,7 @@ use mathlib.Core.Path.{subst⁻¹}
 use borrow.Author.Needs.{needs}
 use Rattle.validator.specs.Contracts.{imageOf}
 use Rattle.validator.specs.Steps.{Filled}
-use Rattle.validator.proofs.CheckLaws.{Answers, filled-in, not-refused, refused-call, answered-call, accepted-long, most-fit, guaranteed}
+use Rattle.validator.proofs.CheckLaws.{filled-in, not-refused, refused-call, answered-call, accepted-long, most-fit, guaranteed}
 use Rattle.validator.proofs.calls.validate_chunk_lua51.Statement.{statement}
 use Rattle.validator.proofs.calls.validate_chunk_lua51.Tie as tie
 

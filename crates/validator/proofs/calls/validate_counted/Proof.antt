@@ -1,7 +1,7 @@
 -- `validate_counted` meets its contract: too short, without diagnostics, or written in a second walk. Assumes nothing.
 use borrow.Author.Needs.{needs}
 use Rattle.validator.specs.Contracts.{imageOf}
-use Rattle.validator.proofs.CheckLaws.{Answers, judged, short, long, nothing, refused-short, accepted-long}
+use Rattle.validator.proofs.CheckLaws.{judged, short, long, nothing, refused-short, accepted-long}
 use Rattle.validator.proofs.calls.validate_counted.Statement.{statement}
 use Rattle.validator.proofs.calls.validate_counted.Tie as tie
 

@@ -1,6 +1,6 @@
 -- `window` meets its contract: by the test of the count. Assumes nothing.
 use mathlib.Core.Path.{ap}
-use mathlib.Core.List.{List, [], _∷_}
+use mathlib.Core.List.{[], _∷_}
 use Prim.Native.Nat.{ℕ}
 use native.Mathlib.Omega.{arith}
 use borrow.Author.Needs.{needs}

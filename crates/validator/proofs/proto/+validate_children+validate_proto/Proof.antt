@@ -4,7 +4,6 @@ use native.Mathlib.Omega.{arith}
 use mathlib.Core.Path.{refl, sym, _∙_}
 use lib.ListN.{length}
 use borrow.Author.Needs.{needs}
-use borrow.Fn.Kinds.{In}
 use borrow.Fn.PlainCycle.{Measures, is, falls, and}
 use Rattle.roles.specs.Table.{rowBytes}
 use Rattle.validator.proofs.CycleLaws.{ChildPass, few-rows, same-row, next-row, next-ready, below-walked, tested-row, tested-ready, stopped, child-stopped, rows-fall, child-passed}

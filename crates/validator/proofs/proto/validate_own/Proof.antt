@@ -1,7 +1,5 @@
 -- `validate_own` meets its contract: ended at the first test or at the fault, or through to the last word. Assumes nothing.
-use Prim.Native.Nat.{ℕ}
-use mathlib.Core.Path.{sym, _∙_, ap}
-use mathlib.Core.List.{List}
+use mathlib.Core.Path.{_∙_}
 use borrow.Author.Needs.{needs}
 use Rattle.validator.proofs.OwnLaws.{words-of, own-test, own-fault, own-words, faulted, worded}
 use Rattle.validator.proofs.proto.validate_own.Statement.{statement}

@@ -1,6 +1,4 @@
 -- `skips_to_companion` meets its contract: by its test. Assumes nothing.
-use mathlib.Core.Path.{sym, _∙_}
-use native.Mathlib.Omega.{arith}
 use borrow.Author.Needs.{needs}
 use Rattle.verdict.specs.Operands.{skipTarget}
 use Rattle.validator.proofs.word.skips_to_companion.Statement.{statement}

@@ -2,7 +2,6 @@
 use Prim.Native.Nat.{_-_, _/_}
 use native.Mathlib.Omega.{arith}
 use lib.ListN.{length}
-use mathlib.Core.Path.{sym, _∙_}
 use Rattle.validator.proofs.BindingLaws.{BindingPass, has-record, pass-begins, pass-next, pass-ends}
 use Rattle.validator.proofs.word.validate_bindings.Statement.{statement}
 use Rattle.validator.proofs.word.validate_bindings.Tie as tie

@@ -1,5 +1,4 @@
 -- `validate_flow` meets its contract: the target, and then the skip. Assumes nothing.
-use native.Mathlib.Omega.{arith}
 use borrow.Author.Needs.{needs}
 use Rattle.validator.proofs.EmitLaws.{emits-cons, emits-end}
 use Rattle.validator.proofs.WordLaws.{skip}

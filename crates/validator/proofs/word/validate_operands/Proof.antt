@@ -1,6 +1,5 @@
 -- `validate_operands` meets its contract: its parts one after another. Assumes nothing.
 use mathlib.Core.List.{[], _∷_}
-use mathlib.Core.Path.{_∙_, ap}
 use borrow.Author.Needs.{needs}
 use Rattle.opcodes.specs.Words.{CLOSURE}
 use Rattle.verdict.specs.Operands.{childBx}

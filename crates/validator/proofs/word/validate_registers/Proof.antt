@@ -1,8 +1,6 @@
 -- `validate_registers` meets its contract: register A, and one span after the other. Assumes nothing.
-use mathlib.Core.Path.{sym, _∙_, ap}
 use borrow.Author.Needs.{needs}
-use Rattle.validator.proofs.EmitLaws.{emits-cons, emits-end, emits-then}
-use Rattle.validator.proofs.OperandLaws.{value-a}
+use Rattle.validator.proofs.EmitLaws.{emits-cons, emits-end}
 use Rattle.validator.proofs.WordLaws.{checked-as, register-a, spans-checked}
 use Rattle.validator.proofs.word.validate_registers.Statement.{statement}
 use Rattle.validator.proofs.word.validate_registers.Tie as tie

@@ -1,5 +1,4 @@
 -- `validate_target` meets its contract: before the first word, past the last, or at one. Assumes nothing.
-use native.Mathlib.Omega.{arith}
 use borrow.Author.Needs.{needs}
 use Rattle.validator.proofs.WordLaws.{target-before, target-past, target-at}
 use Rattle.validator.proofs.word.validate_target.Statement.{statement}

@@ -16,7 +16,8 @@
  * Nothing is allocated, nothing is kept after a call, and there is no global state: any number of threads may call at
  * the same time, each with buffers of its own.
  * A call takes at most LUAD51_STACK_BYTES of stack. Only the search for a child of a CLOSURE takes much: it goes one
- * call deeper for each row that it passes, 48 bytes each as compiled for x86-64.
+ * call deeper for each row that it passes, 48 bytes each as compiled for x86-64. The check also goes one call deeper for
+ * each level of nesting.
  * The time is linear in words and records, and in rows times the depth of nesting, where the CLOSUREs of a prototype name
  * its children in rising order, as compilers write them, or name the same one again. A smaller number starts the search
  * at the prototype's first row again, so an image made to do so can take time in proportion to words times rows.
@@ -57,9 +58,8 @@ extern "C" {
 #define LUAD51_BINDING_BYTES 12
 #define LUAD51_DIAGNOSTIC_BYTES 16
 
-/* Stack that a call takes at most, as compiled for x86-64: measured, not proved. TODO 1: measured of luad51_roles and
- * luad51_bindings; that of luad51_check is still to be measured. */
-#define LUAD51_STACK_BYTES 800000
+/* Stack that a call takes at most, as compiled for x86-64: measured, not proved. */
+#define LUAD51_STACK_BYTES 900000
 
 /* Why a call was refused: the least number whose condition holds. */
 enum luad51_refusal_number {

@@ -18,10 +18,10 @@ use Rattle.verdict.specs.Statements.{Guarantee}
 use Rattle.verdict.specs.Walk.{Verdict, ValidForParser, Incomplete, Invalid}
 use Rattle.luad51.specs.Results.{packed, refusedResult, countResult, checkResult, verdictNumber, verdictOfNumber, refusalIn, figureIn, verdictIn, checkedIn, ReadAs, Reads, ReadsCheck, Guaranteed}
 
--- a figure of 32 bits, a refusal of 8 and a verdict do not meet
-pub read-back : (figure refusal verdict : ℕ) → figure < 2 ^ 32 → refusal < 2 ^ 8 → ReadAs (packed figure refusal verdict) refusal figure verdict
+-- a figure of 32 bits, a refusal of 8 and a verdict of 8 do not meet
+pub read-back : (figure refusal verdict : ℕ) → figure < 2 ^ 32 → refusal < 2 ^ 8 → verdict < 2 ^ 8 → ReadAs (packed figure refusal verdict) refusal figure verdict
 unfolding refusalIn figureIn verdictIn
-read-back figure refusal verdict f r = record { refusal-read = omega arith; figure-read = omega arith; verdict-read = omega arith }
+read-back figure refusal verdict f r v = record { refusal-read = omega arith; figure-read = omega arith; verdict-read = omega arith }
 
 -- a refusal's number is not 0
 refusal-numbered : (x : Refusal) → refusedOf x .number ≡ 0 → ⊥

@@ -8,7 +8,7 @@ use Rattle.verdict.specs.Image.{Image}
 use Rattle.verdict.specs.Check.{Checked}
 use Rattle.verdict.specs.Statements.{Guarantee}
 
--- the figure in the low 32 bits, above it in 8 bits the refusal's number, or 0, and above that the verdict's number, or 0
+-- the figure in the low 32 bits, above it in 8 bits the refusal's number, or 0, and above that in 8 bits the verdict's number, or 0
 abbrev pub packed : ℕ → ℕ → ℕ → ℕ
 packed figure refusal verdict = figure + 2 ^ 32 * refusal + 2 ^ 40 * verdict
 
@@ -44,7 +44,7 @@ figureIn result = result % 2 ^ 32
 
 -- the verdict's number
 unfoldable pub verdictIn : ℕ → ℕ
-verdictIn result = result / 2 ^ 40
+verdictIn result = result / 2 ^ 40 % 2 ^ 8
 
 -- they read these three
 pub record ReadAs (result refusal figure verdict : ℕ) : Type 0 where

@@ -132,12 +132,12 @@ uint64_t luad51_bindings(const uint8_t *protos, size_t protos_len, const uint8_t
  * diagnostics that the caller already has of it. A record is four i32, LUAD51_DIAGNOSTIC_BYTES together: row, pc, code
  * (enum luad51_code), value. The pc is that of the word, of a binding word where this is wrong, or -1.
  * They stand in row order: of a row first L51_CLOSURE_001 or L51_SETLIST_001, then L51_STACK_001, then those of its
- * words by pc, those of binding words with their CLOSURE.
+ * words by pc, a word's own by code and then, of a CLOSURE, those of its binding words by pc.
  * The check ends before its end, with the limit reached, where incoming and new diagnostics together are 10000 or more
  * before a row or a word; a word's own are never cut. So there are at most LUAD51_MAX_DIAGNOSTICS new ones, and a
  * buffer for as many is never too short.
- * With a buffer for LUAD51_MAX_DIAGNOSTICS records or more, and where there are no diagnostics, the image is walked
- * once; otherwise twice, to count the diagnostics and to write them. Nothing is allocated.
+ * With a buffer for LUAD51_MAX_DIAGNOSTICS records or more, and where there are no diagnostics or they do not fit, the
+ * image is walked once; otherwise twice, to count the diagnostics and to write them.
  */
 uint64_t luad51_check(const uint8_t *protos, size_t protos_len, const uint8_t *words, size_t words_len,
                       uint32_t warnings, uint32_t errors, uint8_t *roles, size_t roles_len, uint8_t *diagnostics,

@@ -17,7 +17,7 @@ use Rattle.opcodes.proofs.ByteLaws.{getD-u32s, length-u32s}
 use Rattle.opcodes.proofs.ListLaws.{flatMap-append, upFrom-append}
 use Rattle.opcodes.proofs.TestLaws.{T-true, is-not}
 use Rattle.roles.specs.Contracts.{roleIn}
-use Rattle.roles.specs.Roles.{Role, Instruction, isExecutable, Executable, executableAt, roleAt, wordAt, roles, owned, existing, companions, bindingCount, bindingWords, hasExtra}
+use Rattle.roles.specs.Roles.{Instruction, isExecutable, Executable, executableAt, roleAt, wordAt, roles, owned, existing, companions, bindingCount, bindingWords, hasExtra}
 use Rattle.roles.specs.Table.{Proto}
 use Rattle.roles.proofs.RoleBufferLaws.{length-roles}
 use Rattle.roles.proofs.RoleLaws.{exists, next-executable, owned-count, companion-unexecutable}
@@ -28,6 +28,7 @@ use Rattle.validator.specs.Steps.{State, emittedIf, emitAll}
 use Rattle.validator.specs.declared.prototype.Prototype.{Prototype}
 use Rattle.validator.proofs.EmitLaws.{emits-only, emits-then, emits-none}
 use Rattle.validator.proofs.FaultLaws.{claims-count}
+use Rattle.validator.proofs.WordLaws.{looked-up}
 
 -- ---- one
 
@@ -141,12 +142,6 @@ module _ (p : Proto) (pc : ℕ) (x : Executable p pc) (t : T (is (wordAt p pc) (
           absurd (true≢false (sym e ∙ ap (λ (n : ℕ). isExecutable (roleAt p n)) (sym there) ∙ binding-companion (at - (pc + 1)) (ltb-true _ _ q)))
       go false q = omega (arith, ltb-false (at - (pc + 1)) (bindingWords p pc) q)
 
-not-same : (a b : Bool) → not a ≡ not b → a ≡ b
-not-same true true e = refl
-not-same true false e = sym e
-not-same false true e = sym e
-not-same false false e = refl
-
 -- one number more
 flatMap-next : (f : ℕ → List Diagnostic) (i n : ℕ) → flatMap f (upFrom i (n + 1)) ≡ flatMap f (upFrom i n) ++ f (i + n)
 unfolding flatMap
@@ -186,7 +181,7 @@ module _ (q : Prototype) (code records : List ℕ) (pc : ℕ) (s₀ : State) whe
   module _ (s : State) (at : ℕ) (pass : BindingPass q code records pc s₀ s at) (b : Bool) (looked : b ≡ not (isExecutable (roleIn records at))) where
     -- the role that was looked up
     role-there : (p : Proto) → Describes p q code records → (c : Bool) → b ≡ not c → isExecutable (roleAt p at) ≡ c
-    role-there p d c e = not-same (isExecutable (roleAt p at)) c (ap (λ (r : Role). not (isExecutable r)) (sym (d .stands .roles at)) ∙ sym looked ∙ e)
+    role-there p d c e = looked-up p q records (d .stands) at b c looked e
 
     pub pass-next : b ≡ true → (t : State) (w : ℕ) → length (t .1) ≡ length (s .1) → w ≡ u32At code (4 * at) → t ≡ emitAll (q .row) (bindingAdds q at w) s → BindingPass q code records pc s₀ t (at + 1)
     pass-next e t w size read added =

@@ -29,7 +29,7 @@ use Rattle.roles.proofs.WrittenLaws.{accepted-none}
 use Rattle.verdict.specs.Check.{Checked, checked, checkRefusal, checkAnswer, diagnosticsAfter}
 use Rattle.verdict.specs.Image.{Image, diagnostics}
 use Rattle.verdict.specs.Statements.{Accepted, Guarantee}
-use Rattle.verdict.specs.Walk.{MAX-DIAGNOSTICS, diagnosticFields}
+use Rattle.verdict.specs.Walk.{MAX-DIAGNOSTICS, diagnosticFields, diagnosticBytes}
 use Rattle.verdict.proofs.GuaranteeLaws.{check-guaranteed}
 use Rattle.verdict.proofs.LimitLaws.{at-most}
 use Rattle.validator.specs.Contracts.{answerOf, concluded, imageOf}
@@ -113,14 +113,14 @@ module _ (i : Image) (old : List ℕ) (s : State) (w : Walked i old s) where
 
   module _ (buffer : List ℕ) where
     -- the diagnostics do not fit into a buffer, or they do
-    pub short : length buffer / 16 < s .0 .count → tooShort (length (diagnostics i)) 16 (length buffer) ≡ some (refusedOf (refusal.BufferTooShort (s .0 .count)))
+    pub short : length buffer / diagnosticBytes < s .0 .count → tooShort (length (diagnostics i)) diagnosticBytes (length buffer) ≡ some (refusedOf (refusal.BufferTooShort (s .0 .count)))
     unfolding tooShort refuseIf refuse refusedOf
     short h =
         let n = length (diagnostics i) in
-        let over : length buffer < n * 16 = omega (arith, counted) in
-        rw (lt-ltb (length buffer) (n * 16) over, counted)
+        let over : length buffer < n * diagnosticBytes = omega (arith, counted) in
+        rw (lt-ltb (length buffer) (n * diagnosticBytes) over, counted)
 
-    pub long : s .0 .count ≤ length buffer / 16 → 16 * length (diagnostics i) ≤ length buffer
+    pub long : s .0 .count ≤ length buffer / diagnosticBytes → diagnosticBytes * length (diagnostics i) ≤ length buffer
     long h = omega (arith, counted)
 
     -- there are none
@@ -129,18 +129,18 @@ module _ (i : Image) (old : List ℕ) (s : State) (w : Walked i old s) where
     nothing e = rw (walked-empty i old s w e) (sym (overwrite-none buffer 0))
 
 -- all of them fit
-all-fit : (n len : ℕ) → 16 * n ≤ len → tooShort n 16 len ≡ none
+all-fit : (n len : ℕ) → diagnosticBytes * n ≤ len → tooShort n diagnosticBytes len ≡ none
 unfolding tooShort refuseIf
-all-fit n len h = rw (le-ltb len (n * 16) (omega arith))
+all-fit n len h = rw (le-ltb len (n * diagnosticBytes) (omega arith))
 
 -- the answer and the buffer, by the refusal of a short buffer
 pub record Answers (i : Image) (buffer : List ℕ) (r : Validation) (new : List ℕ) : Type 0 where
-  pub said : answerOf r ≡ answer (tooShort (length (diagnostics i)) 16 (length buffer)) (checked i)
-  pub left : new ≡ filled (tooShort (length (diagnostics i)) 16 (length buffer)) buffer (i32Record (flatMap diagnosticFields (diagnostics i)))
+  pub said : answerOf r ≡ answer (tooShort (length (diagnostics i)) diagnosticBytes (length buffer)) (checked i)
+  pub left : new ≡ filled (tooShort (length (diagnostics i)) diagnosticBytes (length buffer)) buffer (i32Record (flatMap diagnosticFields (diagnostics i)))
 
 module _ (i : Image) (buffer : List ℕ) where
   -- refused, and left as it was
-  pub refused-short : (n : ℕ) → tooShort (length (diagnostics i)) 16 (length buffer) ≡ some (refusedOf (refusal.BufferTooShort n)) → Answers i buffer (validation.Refused (refusal.BufferTooShort n)) buffer
+  pub refused-short : (n : ℕ) → tooShort (length (diagnostics i)) diagnosticBytes (length buffer) ≡ some (refusedOf (refusal.BufferTooShort n)) → Answers i buffer (validation.Refused (refusal.BufferTooShort n)) buffer
   unfolding answerOf answer filled
   refused-short n e =
       record {
@@ -149,7 +149,7 @@ module _ (i : Image) (buffer : List ℕ) where
       }
 
   -- judged, and filled
-  pub accepted-long : (r : Validation) (new : List ℕ) → 16 * length (diagnostics i) ≤ length buffer → answerOf r ≡ accepted (checked i) → new ≡ overwrite buffer 0 (i32Record (flatMap diagnosticFields (diagnostics i)))
+  pub accepted-long : (r : Validation) (new : List ℕ) → diagnosticBytes * length (diagnostics i) ≤ length buffer → answerOf r ≡ accepted (checked i) → new ≡ overwrite buffer 0 (i32Record (flatMap diagnosticFields (diagnostics i)))
       → Answers i buffer r new
   unfolding answer filled
   accepted-long r new h e f =
@@ -181,8 +181,8 @@ module _ (i : Image) (records : List ℕ) (a : Answered) (judgedRoles : rolesAns
   unfolding answerOf checkAnswer checkRefusal diagnosticsAfter answer filled orElse
   refused-call r buffer e =
       let o = sym (was-refused r e) in (
-        ap (λ (x : Option Refused). answer (orElse x (tooShort (length (diagnostics i)) 16 (length buffer))) (checked i)) o,
-        ap (λ (x : Option Refused). filled (orElse x (tooShort (length (diagnostics i)) 16 (length buffer))) buffer (i32Record (flatMap diagnosticFields (diagnostics i)))) o,
+        ap (λ (x : Option Refused). answer (orElse x (tooShort (length (diagnostics i)) diagnosticBytes (length buffer))) (checked i)) o,
+        ap (λ (x : Option Refused). filled (orElse x (tooShort (length (diagnostics i)) diagnosticBytes (length buffer))) buffer (i32Record (flatMap diagnosticFields (diagnostics i)))) o,
       )
 
   -- the answer is that of the walk
@@ -191,12 +191,12 @@ module _ (i : Image) (records : List ℕ) (a : Answered) (judgedRoles : rolesAns
   unfolding checkAnswer checkRefusal diagnosticsAfter orElse
   answered-call n r buffer new e w =
       let o = sym (not-refused n e) in (
-        w .said ∙ ap (λ (x : Option Refused). answer (orElse x (tooShort (length (diagnostics i)) 16 (length buffer))) (checked i)) o,
-        w .left ∙ ap (λ (x : Option Refused). filled (orElse x (tooShort (length (diagnostics i)) 16 (length buffer))) buffer (i32Record (flatMap diagnosticFields (diagnostics i)))) o,
+        w .said ∙ ap (λ (x : Option Refused). answer (orElse x (tooShort (length (diagnostics i)) diagnosticBytes (length buffer))) (checked i)) o,
+        w .left ∙ ap (λ (x : Option Refused). filled (orElse x (tooShort (length (diagnostics i)) diagnosticBytes (length buffer))) buffer (i32Record (flatMap diagnosticFields (diagnostics i)))) o,
       )
 
   -- the largest number of diagnostics fits
-  pub most-fit : (n len : ℕ) → a ≡ answered.Records n → 164080 ≤ len → 16 * length (diagnostics i) ≤ len
+  pub most-fit : (n len : ℕ) → a ≡ answered.Records n → 10255 ≤ len / diagnosticBytes → diagnosticBytes * length (diagnostics i) ≤ len
   unfolding Accepted rolesRefusal
   most-fit n len e h = omega (arith, at-most i (orElse-none _ _ (not-refused n e) .0))
 

@@ -7,6 +7,7 @@ use mathlib.Core.List.{List}
 use lib.ListN.{length, drop}
 use Rattle.opcodes.specs.Bytes.{u32s}
 use Rattle.roles.specs.Contracts.{protoIn}
+use Rattle.roles.specs.Refusals.{maxRows}
 use Rattle.roles.specs.Table.{rowBytes, rowAt}
 use Rattle.roles.proofs.RefusalLaws.{image-kept}
 use Rattle.roles.proofs.TableLaws.{length-rows}
@@ -17,7 +18,7 @@ use Rattle.validator.specs.declared.prototype.Prototype.{Prototype}
 use Rattle.validator.specs.declared.walk.WalkState.{WalkState}
 use Rattle.validator.proofs.RowLaws.{Begins, More, steps-row, step-begins, step-going, part-walked, tested-ended, child-rest, child-ended, child-moves, child-begins}
 
-pub few-rows : (table words roles : List ℕ) (w : WalkState) → Ready table words roles w → length table / rowBytes ≤ 16384
+pub few-rows : (table words roles : List ℕ) (w : WalkState) → Ready table words roles w → length table / rowBytes ≤ maxRows
 few-rows table words roles w ready = omega (arith, image-kept table words (ready .filled .accepted) .row-limit, length-rows table)
 
 -- ---- a row, and then the rows below it

@@ -10,6 +10,7 @@ use Rattle.opcodes.specs.Bytes.{u32Record, i32Bits, overwrite}
 use Rattle.opcodes.specs.Lists.{only}
 use Rattle.opcodes.proofs.TestLaws.{or-false}
 use Rattle.verdict.specs.Diagnostics.{Diagnostic, diagnostic, notBelow, testedStep}
+use Rattle.verdict.specs.Walk.{diagnosticBytes}
 use Rattle.validator.specs.declared.walk.WalkState.{WalkState}
 use Rattle.validator.specs.Steps.{State, emitted, emittedIf, emit, emitAll, ended, testedOf, advance}
 
@@ -18,7 +19,7 @@ use Rattle.validator.specs.Steps.{State, emitted, emittedIf, emit, emitA
 -- counted and written: an error, and a warning
 module _ (s : State) (row pc code value n : ℕ) (new : List ℕ)
     (counted : n ≡ (s .0 .count + 1) % 2 ^ 32)
-    (stored : new ≡ overwrite (s .1) (16 * s .0 .count) (u32Record (row ∷ pc ∷ code ∷ value ∷ []))) where
+    (stored : new ≡ overwrite (s .1) (diagnosticBytes * s .0 .count) (u32Record (row ∷ pc ∷ code ∷ value ∷ []))) where
   pub emitted-error : (code ≡ 3 → ⊥)
       → _≡_ {A = State} (record { row = s .0 .row; first = s .0 .first; stop = s .0 .stop; count = n; error = true; limit = s .0 .limit }, new) (emitted row pc code value s)
   unfolding emitted

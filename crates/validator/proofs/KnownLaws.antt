@@ -7,13 +7,12 @@ use mathlib.Core.Bool.{Bool, true, false}
 use mathlib.Core.List.{List, [], _∷_, flatMap, flatten}
 use lib.Dec.{T, ltb}
 use lib.ListN.{length}
-use borrow.Author.Tests.{le-ltb, ltb-false}
+use borrow.Author.Tests.{ltb-false}
 use Rattle.opcodes.specs.Lists.{elem, only, upFrom}
 use Rattle.opcodes.specs.Words.{opcode, is, decoded, opcodes, opcodeAt, opcodeOf, numberOf, CLOSURE}
 use Rattle.opcodes.specs.declared.Opcode51.{Opcode51}
 use Rattle.opcodes.specs.declared.OpcodeField.the-variants.{Known, Unknown}
 use Rattle.opcodes.specs.declared.RawInstruction51.{RawInstruction51}
-use Rattle.opcodes.proofs.OpcodeLaws.{known-below}
 use Rattle.opcodes.proofs.TestLaws.{by-cond}
 use Rattle.roles.specs.Roles.{executableAt, wordAt, bindingCount, bindingWords, existing}
 use Rattle.roles.specs.Table.{Proto}
@@ -23,7 +22,7 @@ use Rattle.validator.specs.Contracts.{Decodes}
 use Rattle.validator.specs.Steps.{State, emitted, emitAll}
 use Rattle.validator.proofs.EmitLaws.{emits-word, emits-none, emits-cons, emits-end, emits-join}
 use Rattle.validator.proofs.FaultLaws.{split-again}
-use Rattle.validator.proofs.OperandLaws.{opcode-known, listed}
+use Rattle.validator.proofs.OperandLaws.{not-unknown, listed}
 
 -- a number that is not known is above the last that is
 listed-known : (os : List Opcode51) (k n m : ℕ) → k < length os → opcodeAt os k n ≡ Unknown m → ⊥
@@ -63,10 +62,9 @@ module _ (row pc : ℕ) (p : Proto) (w : RawInstruction51) (v : ℕ) (split : w 
     -- codes 5 to 17
     pub word-known : (t u z : State) → t ≡ emitAll row (flatten (jumpDiagnostics p pc (w .raw) ∷ skipDiagnostics p pc (w .raw) ∷ [])) s → u ≡ emitAll row (operandDiagnostics p pc (w .raw)) t
         → z ≡ emitAll row (flatMap (bindingDiagnostics p) (upFrom (pc + 1) (bindingWords p pc))) u → z ≡ emitAll row (wordDiagnostics p pc (wordAt p pc)) s
-    unfolding wordDiagnostics opcodeDiagnostics knownDiagnostics isUnknown only
+    unfolding wordDiagnostics opcodeDiagnostics knownDiagnostics only
     word-known t u z e f g =
-        let known : ltb 37 (opcode (w .raw)) ≡ false = le-ltb 37 (opcode (w .raw)) (omega (arith, known-below (opcode (w .raw)) op (opcode-known op w d))) in
-        rw (← same, known)
+        rw (← same, not-unknown op w d)
         (emits-join row (jumpDiagnostics p pc (w .raw) ∷ skipDiagnostics p pc (w .raw) ∷ []) _ s t z e (emits-cons row (operandDiagnostics p pc (w .raw)) _ t u z f (emits-end row _ u z g)))
 
     -- only a CLOSURE binds

@@ -6,6 +6,7 @@ use mathlib.Core.Bool.{Bool, true, false, _&&_}
 use mathlib.Core.List.{List, [], _∷_, _++_, flatten, append-nil}
 use mathlib.Core.Logic.{_⊎_, ⊎-elim}
 use lib.Dec.{T, ltb}
+use borrow.Author.Tests.{le-ltb}
 use denote.Enum.Declared.{tagOf}
 use Rattle.opcodes.specs.Lists.{elem, only}
 use Rattle.opcodes.specs.Words.{Field, B, C, opcode, operand, fieldA, fieldBx, is, decoded, opcodeOf, numberOf, isFixedRegister, isRk, SELF, FORPREP, FORLOOP, TFORLOOP, CALL, TAILCALL, RETURN, VARARG, SETLIST, LOADBOOL, EQ, LT, LE, TEST, TESTSET}
@@ -15,9 +16,9 @@ use Rattle.opcodes.specs.declared.RawInstruction51.{RawInstruction51}
 use Rattle.opcodes.proofs.Arms.{tag-number}
 use Rattle.opcodes.proofs.Opcode51.{the-type}
 use Rattle.opcodes.proofs.FieldLaws.{field-below}
-use Rattle.opcodes.proofs.OpcodeLaws.{known-number}
+use Rattle.opcodes.proofs.OpcodeLaws.{known-below, known-number}
 use Rattle.opcodes.proofs.TestLaws.{subset, is-among}
-use Rattle.verdict.specs.Operands.{isSkip, isLoadboolSkip, spanEnds}
+use Rattle.verdict.specs.Operands.{isUnknown, isSkip, isLoadboolSkip, spanEnds}
 use Rattle.validator.specs.Contracts.{Decodes, ends, operandField}
 use Rattle.validator.specs.declared.operands.OperandField.{OperandField}
 use Rattle.validator.specs.declared.operands.Span.{Span}
@@ -36,6 +37,10 @@ module _ (op : Opcode51) (w : RawInstruction51) (d : Decodes op w) where
 
   pub number : opcode (w .raw) ≡ numberOf op
   number = known-number (opcode (w .raw)) op opcode-known
+
+  pub not-unknown : isUnknown (w .raw) ≡ false
+  unfolding isUnknown
+  not-unknown = le-ltb 37 (opcode (w .raw)) (omega (arith, known-below (opcode (w .raw)) op opcode-known))
 
   -- the opcode is one of a list
   pub listed : (ops : List ℕ) → elem (numberOf op) ops ≡ is (w .raw) ops

@@ -13,7 +13,7 @@ use Rattle.opcodes.specs.Lists.{upFrom}
 use Rattle.opcodes.proofs.ByteLaws.{length-u32s}
 use Rattle.opcodes.proofs.TestLaws.{T-true}
 use Rattle.roles.specs.Contracts.{roleIn}
-use Rattle.roles.specs.Roles.{Role, Executable, executableAt, isExecutable, roleAt, wordAt}
+use Rattle.roles.specs.Roles.{Executable, executableAt, isExecutable, wordAt}
 use Rattle.roles.specs.Table.{Proto}
 use Rattle.roles.proofs.RoleLaws.{executable}
 use Rattle.verdict.specs.Diagnostics.{Diagnostic, Step, testedStep, untestedStep, hasLargeStack, stackDiagnostics, truncationAt, wordDiagnostics, diagnosticsAt, protoSteps}
@@ -23,6 +23,7 @@ use Rattle.validator.specs.declared.fault.Lua51RoleFault.{Lua51RoleFault
 use Rattle.validator.specs.declared.prototype.Prototype.{Prototype}
 use Rattle.validator.specs.declared.walk.WalkState.{WalkState}
 use Rattle.validator.proofs.EmitLaws.{emits-none, emits-only}
+use Rattle.validator.proofs.WordLaws.{looked-up}
 use Rattle.validator.proofs.RowLaws.{tested-step, steps-ended}
 
 -- ---- the stack and the truncated owner
@@ -38,29 +39,16 @@ fault-steps row found told s t e f = f ∙ ap (λ (x : Lua51RoleFault). foldl (a
 
 -- ---- a word
 
-module _ (p : Proto) (q : Prototype) (code records : List ℕ) (d : Describes p q code records) (pc : ℕ) where
-  looked : (b c : Bool) → b ≡ not (isExecutable (roleIn records pc)) → b ≡ c → not (isExecutable (roleAt p pc)) ≡ c
-  looked b c e f = ap (λ (r : Role). not (isExecutable r)) (sym (d .stands .roles pc)) ∙ sym e ∙ f
-
-  pub executes : pc < length code / 4 → (b : Bool) → b ≡ not (isExecutable (roleIn records pc)) → b ≡ false → Executable p pc
-  executes h b e f =
-      executable p pc (omega (arith, h, ap length (d .code), length-u32s code)) (not-false (isExecutable (roleAt p pc)) (looked b false e f))
-    where
-      not-false : (b : Bool) → not b ≡ false → T b
-      not-false true q = tt
-      not-false false q = subst T q tt
+pub executes : (p : Proto) (q : Prototype) (code records : List ℕ) → Describes p q code records → (pc : ℕ) → pc < length code / 4 → (b : Bool) → b ≡ not (isExecutable (roleIn records pc)) → b ≡ false → Executable p pc
+executes p q code records d pc h b e f =
+    executable p pc (omega (arith, h, ap length (d .code), length-u32s code)) (subst T (sym (looked-up p q records (d .stands) pc b true e f)) tt)
 
 -- a companion adds nothing
 pub companion-adds : (row : ℕ) (s : State) (p : Proto) (q : Prototype) (code records : List ℕ) → Describes p q code records → (pc : ℕ) (b : Bool) → b ≡ not (isExecutable (roleIn records pc)) → b ≡ true
     → s ≡ emitAll row (diagnosticsAt p pc) s
 unfolding diagnosticsAt executableAt
 companion-adds row s p q code records d pc b e f =
-    let no : isExecutable (roleAt p pc) ≡ false = not-true (isExecutable (roleAt p pc)) (looked p q code records d pc b true e f) in
-    rw (no, and-false) (emits-none row s)
-  where
-    not-true : (b : Bool) → not b ≡ true → b ≡ false
-    not-true true q = sym q
-    not-true false q = refl
+    rw (looked-up p q records (d .stands) pc b false e f, and-false) (emits-none row s)
 
 -- an executable word adds its own
 pub word-adds : (row pc : ℕ) (p : Proto) (s t : State) → Executable p pc → t ≡ emitAll row (wordDiagnostics p pc (wordAt p pc)) s → t ≡ emitAll row (diagnosticsAt p pc) s

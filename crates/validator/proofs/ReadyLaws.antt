@@ -8,7 +8,7 @@ use lib.Seq.{take-all, length-take-le}
 use Rattle.opcodes.specs.Bytes.{u32s}
 use Rattle.opcodes.proofs.ByteLaws.{length-u32s}
 use Rattle.roles.specs.Contracts.{protoIn, roleIn}
-use Rattle.roles.specs.Refusals.{wordTotal}
+use Rattle.roles.specs.Refusals.{maxRows, maxWordBytes, wordTotal}
 use Rattle.roles.specs.Roles.{roleAt, roleBytes}
 use Rattle.roles.specs.Table.{Row, Proto, rowBytes, rowAt, rows, children, protoOf}
 use Rattle.roles.proofs.RefusalLaws.{ImageKept, image-kept}
@@ -23,11 +23,11 @@ use Rattle.validator.specs.declared.walk.WalkState.{WalkState}
 
 -- the numbers that the code's arithmetic needs
 pub record Room (table words roles : List ℕ) (row first next : ℕ) : Type 0 where
-  pub few : length table / rowBytes ≤ 16384
+  pub few : length table / rowBytes ≤ maxRows
   pub row-there : rowBytes * row + rowBytes ≤ length table
   pub after : first ≤ next
   pub within : 4 * next ≤ length words
-  pub short : length words ≤ 4194304
+  pub short : length words ≤ maxWordBytes
   pub roles-there : roleBytes * next ≤ length roles
 
 module _ (table words roles : List ℕ) (w : WalkState) (ready : Ready table words roles w) (there : w .row < length table / rowBytes) (q : Prototype) (e : q ≡ prototypeOf table (w .row)) where
@@ -66,7 +66,7 @@ module _ (table words roles : List ℕ) (w : WalkState) (ready : Ready table wor
   pub part-size : length wordPart ≡ 4 * rowAt table (w .row) .words
   part-size = part-length table words (w .row) (w .first) next stated (room .within)
 
-  pub short-parts : (length wordPart ≤ 4194304) × (length rolePart ≤ 2 * 4194304)
+  pub short-parts : (length wordPart ≤ maxWordBytes) × (length rolePart ≤ 2 * maxWordBytes)
   short-parts = (
     omega (arith, part-size, stated, room .within, room .short),
     omega (arith, length-take (roleBytes * next - roleBytes * w .first) (drop (roleBytes * w .first) roles), room .within, room .short),

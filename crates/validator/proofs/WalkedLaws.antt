@@ -17,7 +17,7 @@ use Rattle.roles.specs.Table.{Row, rowBytes, rowAt, rows, protosOf, protos}
 use Rattle.roles.specs.Refusals.{wordTotal, badDepth}
 use Rattle.roles.specs.Contracts.{protoIn}
 use Rattle.verdict.specs.Diagnostics.{Diagnostic, isError, Step, protoSteps}
-use Rattle.verdict.specs.Walk.{RowDiagnostic, inRow, MAX-DIAGNOSTICS, Walk, start, countN, advance as advanceWalk, walkRow, walkFrom, walk, limitReached, hasErrors, diagnosticFields}
+use Rattle.verdict.specs.Walk.{RowDiagnostic, inRow, MAX-DIAGNOSTICS, Walk, start, countN, advance as advanceWalk, walkRow, walkFrom, walk, limitReached, hasErrors, diagnosticFields, diagnosticBytes, errorIn}
 use Rattle.verdict.specs.Image.{Image, imageProtos, imageWalk, diagnostics, verdict}
 use Rattle.verdict.specs.Check.{checked}
 use Rattle.verdict.specs.Statements.{Accepted}
@@ -32,10 +32,6 @@ use Rattle.verdict.proofs.TreeLaws.{advance-ended}
 use Rattle.verdict.proofs.LimitLaws.{at-most}
 use Rattle.validator.proofs.RowLaws.{walk-limited}
 use Rattle.validator.proofs.WrittenRecords.{written-append, written-fits}
-
--- an error among the diagnostics
-abbrev pub errorIn : RowDiagnostic → Bool
-errorIn d = isError (d .diagnostic)
 
 -- the state and the buffer, in a row whose words begin at `first`, are those of a walk of the definitions
 pub record Matches (incoming row first : ℕ) (old : List ℕ) (v : Walk) (s : State) : Type 0 where
@@ -80,8 +76,8 @@ module _ (incoming row first : ℕ) (old : List ℕ) where
         error = ap (λ (b : Bool). b || isError d) (m .error) ∙ sym (any-next errorIn (v .found) (inRow row d));
         limit = m .limit;
         buffer =
-            ap₂ (λ (l : List ℕ) (n : ℕ). overwrite l (16 * n) (u32Record (row ∷ i32Bits (d .pc) ∷ d .code ∷ i32Bits (d .value) ∷ []))) (m .buffer) (m .count ∙ sym (zero-add (length (v .found))))
-            ∙ ap (overwrite (written 0 (v .found) old) (16 * (0 + length (v .found)))) (record-fields row d)
+            ap₂ (λ (l : List ℕ) (n : ℕ). overwrite l (diagnosticBytes * n) (u32Record (row ∷ i32Bits (d .pc) ∷ d .code ∷ i32Bits (d .value) ∷ []))) (m .buffer) (m .count ∙ sym (zero-add (length (v .found))))
+            ∙ ap (overwrite (written 0 (v .found) old) (diagnosticBytes * (0 + length (v .found)))) (record-fields row d)
             ∙ sym (written-append 0 (v .found) (inRow row d ∷ []) old);
       }
 
@@ -323,7 +319,7 @@ image-walked i old accepted =
 
 module _ (i : Image) (old : List ℕ) (s : State) (w : Walked i old s) where
   -- all records fit, or not even one
-  pub walked-fits : 16 * length (diagnostics i) ≤ length old → s .1 ≡ overwrite old 0 (i32Record (flatMap diagnosticFields (diagnostics i)))
+  pub walked-fits : diagnosticBytes * length (diagnostics i) ≤ length old → s .1 ≡ overwrite old 0 (i32Record (flatMap diagnosticFields (diagnostics i)))
   unfolding diagnostics
   walked-fits h = w .buffer ∙ written-fits (imageWalk i .found) old h
 

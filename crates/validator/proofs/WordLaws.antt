@@ -9,7 +9,7 @@ use lib.IntN.{pos, negsuc, _+ℤ_, _-ℤ_}
 use lib.ListN.{length}
 use borrow.Author.Tests.{lt-ltb, le-ltb, ltb-true, ltb-false}
 use Rattle.opcodes.specs.Lists.{elem, only, keepIf, select}
-use Rattle.opcodes.specs.Words.{Field, B, C, opcode, fieldBx, is, constantIndex, numberOf, modeOf, aIsRegister, withoutA, withSBx, withBx}
+use Rattle.opcodes.specs.Words.{Field, B, C, fieldBx, is, constantIndex, numberOf, modeOf, aIsRegister, withoutA, withSBx, withBx}
 use Rattle.opcodes.specs.declared.Opcode51.{Opcode51}
 use Rattle.opcodes.specs.declared.OpMode51.{OpMode51}
 use Rattle.opcodes.specs.declared.OpMode51.the-variants.{IABC, IABx, IAsBx}
@@ -19,8 +19,7 @@ use Rattle.roles.specs.declared.role.Lua51PhysicalRole.{Lua51PhysicalRole}
 use Rattle.roles.specs.Roles.{Role, isExecutable, roleAt}
 use Rattle.roles.specs.Table.{Proto}
 use Rattle.verdict.specs.Diagnostics.{Diagnostic, diagnostic, notBelow, targetDiagnostics, jumpDiagnostics, skipDiagnostics, operandDiagnostics}
-use Rattle.opcodes.proofs.OpcodeLaws.{known-below}
-use Rattle.verdict.specs.Operands.{isUnknown, isJump, target, isSkip, skipTarget, constantBx, upvalueB, flagA, registerA, spanEnds, registerIn, constantIn, childBx}
+use Rattle.verdict.specs.Operands.{isJump, target, isSkip, skipTarget, constantBx, upvalueB, flagA, registerA, spanEnds, registerIn, constantIn, childBx}
 use Rattle.validator.specs.Contracts.{Decodes, Limits, Stands, ends, operandField, namesRegister, namesConstant}
 use Rattle.validator.specs.Steps.{State, emitted, emittedIf, emitAll}
 use Rattle.validator.specs.declared.operands.OperandField.{OperandField}
@@ -28,13 +27,23 @@ use Rattle.validator.specs.declared.operands.Span.{Span}
 use Rattle.validator.specs.declared.operands.Span.the-variants.{None, To}
 use Rattle.validator.specs.declared.prototype.Prototype.{Prototype}
 use Rattle.validator.proofs.EmitLaws.{emits-none, emits-word, emits-bits, emits-hit, emits-then}
-use Rattle.validator.proofs.OperandLaws.{listed, opcode-known, value-a}
+use Rattle.validator.proofs.OperandLaws.{listed, not-unknown, value-a}
 
 -- ---- roles
 
 -- a role that was looked up, once the code knows which it is
 pub told-companion : (found told : Lua51PhysicalRole) (role : Role) → roleOf found ≡ role → found ≡ told → not (isExecutable (roleOf told)) ≡ not (isExecutable role)
 told-companion found told role e q = ap (λ (r : Role). not (isExecutable r)) (ap roleOf (sym q) ∙ e)
+
+not-same : (a b : Bool) → not a ≡ not b → a ≡ b
+not-same true true e = refl
+not-same true false e = sym e
+not-same false true e = sym e
+not-same false false e = refl
+
+-- what the code was told of the role at pc holds of the word's role
+pub looked-up : (p : Proto) (q : Prototype) (records : List ℕ) → Stands p q records → (pc : ℕ) (b c : Bool) → b ≡ not (isExecutable (roleIn records pc)) → b ≡ not c → isExecutable (roleAt p pc) ≡ c
+looked-up p q records h pc b c e f = not-same (isExecutable (roleAt p pc)) c (ap (λ (r : Role). not (isExecutable r)) (sym (h .roles pc)) ∙ sym e ∙ f)
 
 -- ---- operands
 
@@ -83,10 +92,8 @@ below-append pc code limit xs ys =
 
 -- register A
 pub register-a : (op : Opcode51) (w : RawInstruction51) → Decodes op w → (b : Bool) → b ≡ aIsRegister op → only b (w .a) ≡ registerA (w .raw)
-unfolding registerA aIsRegister isUnknown
-register-a op w d b e =
-    let known : ltb 37 (opcode (w .raw)) ≡ false = le-ltb 37 (opcode (w .raw)) (omega (arith, known-below (opcode (w .raw)) op (opcode-known op w d))) in
-    ap₂ only (e ∙ ap not (listed op w d withoutA)) (value-a op w d) ∙ rw known
+unfolding registerA aIsRegister
+register-a op w d b e = ap₂ only (e ∙ ap not (listed op w d withoutA)) (value-a op w d) ∙ rw (not-unknown op w d)
 
 -- two spans are those of the word
 pub spans-checked : (row pc limit w : ℕ) (first second : Span) (s t u : State) → ends first ++ ends second ≡ spanEnds w

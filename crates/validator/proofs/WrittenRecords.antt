@@ -6,7 +6,7 @@ use mathlib.Core.Path.{_≡_, refl, sym, ap, _∙_}
 use mathlib.Core.List.{List, [], _∷_, _++_, flatMap}
 use lib.ListN.{length}
 use Rattle.opcodes.specs.Bytes.{u32Record, i32Record, overwrite}
-use Rattle.verdict.specs.Walk.{RowDiagnostic, diagnosticFields}
+use Rattle.verdict.specs.Walk.{RowDiagnostic, diagnosticFields, diagnosticBytes}
 use Rattle.validator.specs.Steps.{written}
 use Rattle.opcodes.proofs.ByteLaws.{length-i32Record, length-overwrite, overwrite-none, i32Record-next}
 use Rattle.opcodes.proofs.ListLaws.{length-flatMap}
@@ -20,26 +20,21 @@ pub written-append : (k : ℕ) (xs ys : List RowDiagnostic) (out : List ℕ) →
 unfolding written
 written-append k [] ys out = ap (λ (n : ℕ). written n ys out) (sym (add-zero k))
 written-append k (x ∷ xs) ys out =
-    let next = overwrite out (16 * k) (i32Record (diagnosticFields x)) in
+    let next = overwrite out (diagnosticBytes * k) (i32Record (diagnosticFields x)) in
     written-append (suc k) xs ys next ∙ ap (λ (n : ℕ). written n ys (written (suc k) xs next)) (suc-add k (length xs) ∙ sym (add-suc k (length xs)))
 
-pub length-written : (k : ℕ) (ds : List RowDiagnostic) (out : List ℕ) → length (written k ds out) ≡ length out
-unfolding written
-length-written k [] out = refl
-length-written k (d ∷ ds) out = length-written (suc k) ds _ ∙ length-overwrite out (16 * k) (i32Record (diagnosticFields d))
-
 -- where all of them fit, they are one write
-written-from : (k : ℕ) (ds : List RowDiagnostic) (out : List ℕ) → 16 * (k + length ds) ≤ length out
-    → written k ds out ≡ overwrite out (16 * k) (i32Record (flatMap diagnosticFields ds))
+written-from : (k : ℕ) (ds : List RowDiagnostic) (out : List ℕ) → diagnosticBytes * (k + length ds) ≤ length out
+    → written k ds out ≡ overwrite out (diagnosticBytes * k) (i32Record (flatMap diagnosticFields ds))
 unfolding written diagnosticFields i32Record u32Record flatMap
-written-from k [] out h = sym (overwrite-none out (16 * k))
+written-from k [] out h = sym (overwrite-none out (diagnosticBytes * k))
 written-from k (d ∷ ds) out h =
-    let next = overwrite out (16 * k) (i32Record (diagnosticFields d)) in
+    let next = overwrite out (diagnosticBytes * k) (i32Record (diagnosticFields d)) in
     let one = length-i32Record (diagnosticFields d) in
     let others = length-i32Record (flatMap diagnosticFields ds) in
     let count = length-flatMap diagnosticFields 4 length-fields ds in
-    i32Record-next diagnosticFields out next _ (16 * k) (16 * suc k) (d ∷ []) ds (omega (arith, one)) (omega (arith, one, others, count)) refl
-    (written-from (suc k) ds next (omega (arith, length-overwrite out (16 * k) (i32Record (diagnosticFields d)))))
+    i32Record-next diagnosticFields out next _ (diagnosticBytes * k) (diagnosticBytes * suc k) (d ∷ []) ds (omega (arith, one)) (omega (arith, one, others, count)) refl
+    (written-from (suc k) ds next (omega (arith, length-overwrite out (diagnosticBytes * k) (i32Record (diagnosticFields d)))))
 
-pub written-fits : (ds : List RowDiagnostic) (old : List ℕ) → 16 * length ds ≤ length old → written 0 ds old ≡ overwrite old 0 (i32Record (flatMap diagnosticFields ds))
+pub written-fits : (ds : List RowDiagnostic) (old : List ℕ) → diagnosticBytes * length ds ≤ length old → written 0 ds old ≡ overwrite old 0 (i32Record (flatMap diagnosticFields ds))
 written-fits ds old h = written-from 0 ds old (omega arith)

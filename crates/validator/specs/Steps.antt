@@ -13,8 +13,8 @@ use Rattle.roles.specs.Table.{rowBytes, rowAt, rows}
 use Rattle.roles.specs.Roles.{roleAt, roleBytes}
 use Rattle.roles.specs.Refusals.{wordTotal, imageRefusal}
 use Rattle.roles.specs.Contracts.{protoIn, roleIn}
-use Rattle.verdict.specs.Diagnostics.{Diagnostic, isError, Step, protoSteps}
-use Rattle.verdict.specs.Walk.{RowDiagnostic, diagnosticFields}
+use Rattle.verdict.specs.Diagnostics.{Diagnostic, Step, protoSteps}
+use Rattle.verdict.specs.Walk.{RowDiagnostic, diagnosticFields, diagnosticBytes, errorIn}
 use Rattle.verdict.specs.Image.{Image, imageWalk}
 use Rattle.validator.specs.declared.walk.WalkState.{WalkState}
 
@@ -35,7 +35,7 @@ emitted row pc code value s = (
     error = s .0 .error || not (eqb code 3);
     limit = s .0 .limit;
   },
-  overwrite (s .1) (16 * s .0 .count) (u32Record (row ∷ pc ∷ code ∷ value ∷ [])),
+  overwrite (s .1) (diagnosticBytes * s .0 .count) (u32Record (row ∷ pc ∷ code ∷ value ∷ [])),
 )
 
 -- one added where its condition holds
@@ -116,11 +116,11 @@ pub record Ready (table words roles : List ℕ) (w : WalkState) : Type 0 where
 -- the buffer with diagnostics written to it, one after another from record k on, each where it fits
 unfoldable pub written : ℕ → List RowDiagnostic → List ℕ → List ℕ
 written k [] out = out
-written k (d ∷ ds) out = written (suc k) ds (overwrite out (16 * k) (i32Record (diagnosticFields d)))
+written k (d ∷ ds) out = written (suc k) ds (overwrite out (diagnosticBytes * k) (i32Record (diagnosticFields d)))
 
 -- the state and the buffer are those of the image's walk
 pub record Walked (i : Image) (old : List ℕ) (s : State) : Type 0 where
   pub count : s .0 .count ≡ length (imageWalk i .found)
-  pub error : s .0 .error ≡ any (λ (d : RowDiagnostic). isError (d .diagnostic)) (imageWalk i .found)
+  pub error : s .0 .error ≡ any errorIn (imageWalk i .found)
   pub limit : s .0 .limit ≡ imageWalk i .ended
   pub buffer : s .1 ≡ written 0 (imageWalk i .found) old

@@ -17,15 +17,15 @@ ghost use Rattle.roles.specs.Refusals.{tooShort};
 ghost use Rattle.verdict.specs.Check.{Checked, checkAnswer, checked, diagnosticsAfter};
 ghost use Rattle.verdict.specs.Image.{diagnostics as found};
 ghost use Rattle.verdict.specs.Statements.{Guarantee};
-ghost use Rattle.verdict.specs.Walk.{MAX-DIAGNOSTICS, diagnosticFields, verdictOf};
+ghost use Rattle.verdict.specs.Walk.{MAX-DIAGNOSTICS, diagnosticBytes, diagnosticFields, verdictOf};
 ghost use Rattle.validator.specs.Contracts.{answerOf, concluded, imageOf, verdictIn};
 ghost use Rattle.validator.specs.Steps.{Filled, Walked};
 
-// So many diagnostics end the walk at a test.
+// The diagnostic limit: so many, with those that came in, end the walk at a test.
 const MAX_DIAGNOSTICS: u64 = 10000;
 
-// So many bytes hold the diagnostics of any image.
-const MOST_BYTES: usize = 164080;
+// No image has more diagnostics: 9,999 before its last test, and a word that has 256.
+const MOST_DIAGNOSTICS: usize = 10255;
 
 // What is said of an image.
 pub enum Verdict {
@@ -59,7 +59,7 @@ pub fn validate_chunk_lua51(
     if let Answer::Refused(refusal) = write_roles(protos, words, roles) {
         return Validation::Refused(refusal);
     }
-    if MOST_BYTES <= diagnostics.len() {
+    if MOST_DIAGNOSTICS <= diagnostics.len() / DIAGNOSTIC_BYTES {
         return validate_once(protos, words, warnings, errors, roles, diagnostics);
     }
     validate_counted(protos, words, warnings, errors, roles, diagnostics)
@@ -75,7 +75,7 @@ fn validate_once(
     diagnostics: &mut [u8],
 ) -> Validation
     requires { ⌜ Filled (now protos) (now words) (now roles) ⌝ }
-    requires { ⌜ 16 * length (found (imageOf (now protos) (now words) warnings errors)) ≤ length (now diagnostics) ⌝ }
+    requires { ⌜ diagnosticBytes * length (found (imageOf (now protos) (now words) warnings errors)) ≤ length (now diagnostics) ⌝ }
     ensures { λ r. ⌜ answerOf r ≡ accepted (checked (imageOf (now (protos .entry)) (now (words .entry)) warnings errors)) ⌝ }
     ensures { λ _. ⌜ now (diagnostics .exit) ≡ overwrite (now (diagnostics .entry)) 0 (i32Record (flatMap diagnosticFields (found (imageOf (now (protos .entry)) (now (words .entry)) warnings errors)))) ⌝ }
 {
@@ -93,8 +93,8 @@ fn validate_counted(
     diagnostics: &mut [u8],
 ) -> Validation
     requires { ⌜ Filled (now protos) (now words) (now roles) ⌝ }
-    ensures { λ r. ⌜ answerOf r ≡ answer (tooShort (length (found (imageOf (now (protos .entry)) (now (words .entry)) warnings errors))) 16 (length (now (diagnostics .entry)))) (checked (imageOf (now (protos .entry)) (now (words .entry)) warnings errors)) ⌝ }
-    ensures { λ _. ⌜ now (diagnostics .exit) ≡ filled (tooShort (length (found (imageOf (now (protos .entry)) (now (words .entry)) warnings errors))) 16 (length (now (diagnostics .entry)))) (now (diagnostics .entry)) (i32Record (flatMap diagnosticFields (found (imageOf (now (protos .entry)) (now (words .entry)) warnings errors)))) ⌝ }
+    ensures { λ r. ⌜ answerOf r ≡ answer (tooShort (length (found (imageOf (now (protos .entry)) (now (words .entry)) warnings errors))) diagnosticBytes (length (now (diagnostics .entry)))) (checked (imageOf (now (protos .entry)) (now (words .entry)) warnings errors)) ⌝ }
+    ensures { λ _. ⌜ now (diagnostics .exit) ≡ filled (tooShort (length (found (imageOf (now (protos .entry)) (now (words .entry)) warnings errors))) diagnosticBytes (length (now (diagnostics .entry)))) (now (diagnostics .entry)) (i32Record (flatMap diagnosticFields (found (imageOf (now (protos .entry)) (now (words .entry)) warnings errors)))) ⌝ }
 {
     let mut no_room = [0u8; 1];
     let walk = validate_rows(protos, words, warnings, errors, roles, &mut no_room);

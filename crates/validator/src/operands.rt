@@ -1,15 +1,13 @@
 // What a word of a known opcode names and where it goes. `op` is its opcode.
 use opcodes::Opcode51;
 use opcodes::RawInstruction51;
-use opcodes::index_k;
 use opcodes::is_k;
-ghost use mathlib.Core.Bool.{_&&_};
 ghost use mathlib.Core.Path.{_≡_};
 ghost use Prim.Native.Nat.{_+_, _-_, _≤_};
 ghost use mathlib.Core.List.{[], _∷_, _++_};
 ghost use lib.Dec.{ltb};
 ghost use Rattle.opcodes.specs.Lists.{elem, only};
-ghost use Rattle.opcodes.specs.Words.{B, C, CLOSURE, EQ, GETGLOBAL, GETUPVAL, LE, LOADK, LT, SETGLOBAL, SETUPVAL, constantIndex, isConstant, numberOf};
+ghost use Rattle.opcodes.specs.Words.{B, C, CLOSURE, EQ, GETGLOBAL, GETUPVAL, LE, LOADK, LT, SETGLOBAL, SETUPVAL, numberOf};
 ghost use Rattle.verdict.specs.Operands.{isSkip, spanEnds};
 ghost use Rattle.validator.specs.Contracts.{Decodes, ends, namesConstant, namesRegister, operandField};
 

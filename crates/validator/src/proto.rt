@@ -14,7 +14,7 @@ use roles::role::ROLE_BYTES;
 use roles::table::DEPTH;
 use roles::table::ROW_BYTES;
 ghost use mathlib.Core.Path.{_≡_};
-ghost use Prim.Native.Nat.{_+_, _*_, _/_, _<_, _≤_, ℕ};
+ghost use Prim.Native.Nat.{_+_, _*_, _/_, _<_, _≤_};
 ghost use mathlib.Core.List.{[], _∷_, foldl, map};
 ghost use lib.ListN.{length};
 ghost use Rattle.opcodes.specs.Bytes.{u32s};
@@ -29,8 +29,8 @@ ghost use Rattle.validator.specs.Steps.{Ready, advance, emitAll, goesOn,
 // The place of the diagnostic of a stack, which has none: the bits of -1.
 const NONE: u32 = 0xffff_ffff;
 
-// The largest stack that is no diagnostic.
-const MAX_STACK: u32 = 250;
+// A larger stack is a diagnostic.
+const USUAL_STACK: u32 = 250;
 
 // The next row and all rows below it.
 pub fn validate_proto(
@@ -53,7 +53,7 @@ pub fn validate_proto(
 }
 
 // The rows from the next one on that are deeper than this depth: the children of a prototype, each with the rows below it.
-pub fn validate_children(
+fn validate_children(
     walk: WalkState,
     protos: &[u8],
     words: &[u8],
@@ -174,7 +174,7 @@ fn validate_stack(walk: WalkState, out: &mut [u8], proto: Prototype) -> WalkStat
         proto.row,
         NONE,
         L51_STACK_001,
-        MAX_STACK < proto.stack,
+        USUAL_STACK < proto.stack,
         proto.stack,
     )
 }

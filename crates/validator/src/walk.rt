@@ -9,6 +9,7 @@ ghost use mathlib.Core.List.{[], _∷_};
 ghost use lib.Dec.{leb};
 ghost use lib.IntN.{pos};
 ghost use Rattle.opcodes.specs.Lists.{only};
+ghost use Rattle.roles.specs.Refusals.{maxRows};
 ghost use Rattle.verdict.specs.Diagnostics.{diagnostic, notBelow, testedStep};
 ghost use Rattle.validator.specs.Steps.{advance, emitAll, emitted, emittedIf, movedTo, testedOf};
 
@@ -16,7 +17,7 @@ ghost use Rattle.validator.specs.Steps.{advance, emitAll, emitted, emitt
 pub const DIAGNOSTIC_BYTES: usize = 16;
 
 // The next row and the index of its first word; how many diagnostics were found, and how many of them end the walk at a test; whether one is an
-// error; whether a test ended the walk. (The fields leave no gap: copies of one would cost more than all tests of a word.)
+// error; whether a test ended the walk. (The fields fill the struct: docs/DECISIONS.md says what its padding cost.)
 pub struct WalkState {
     pub row: usize,
     pub first: usize,
@@ -39,7 +40,7 @@ impl WalkState {
 
     // On to the next row, whose words begin at `first`.
     pub(crate) fn moved(mut self, first: usize) -> WalkState
-        requires { ⌜ self .row < 16384 ⌝ }
+        requires { ⌜ self .row < maxRows ⌝ }
         ensures { λ r. ⌜ r ≡ movedTo first self ⌝ }
     {
         self.row += 1;
@@ -107,7 +108,7 @@ impl WalkState {
     }
 }
 
-// Whether an operand is named and not below its limit. (An answer apart from the write, so that a clean word costs one branch that is always taken.)
+// Whether an operand is named and not below its limit.
 fn is_over(named: bool, value: u32, limit: u32) -> bool
     ensures { λ r. ⌜ r ≡ named && leb limit value ⌝ }
 {

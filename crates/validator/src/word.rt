@@ -41,7 +41,7 @@ ghost use lib.Dec.{T, ltb};
 ghost use lib.IntN.{_-ℤ_, pos};
 ghost use lib.ListN.{length};
 ghost use Rattle.opcodes.specs.Lists.{elem, only, upFrom};
-ghost use Rattle.opcodes.specs.Words.{B, C, CLOSURE, Field, is};
+ghost use Rattle.opcodes.specs.Words.{B, C, CLOSURE, Field, GETUPVAL as opcodeGETUPVAL, MOVE as opcodeMOVE, VARARG, is};
 ghost use Rattle.roles.specs.Contracts.{roleIn};
 ghost use Rattle.roles.specs.Refusals.{maxWordBytes};
 ghost use Rattle.roles.specs.Roles.{Executable, bindingWords, isExecutable, wordAt};
@@ -417,7 +417,7 @@ fn validate_binding(
 
 // Whether a word of this opcode captures something.
 fn is_binding(opcode: u8) -> bool
-    ensures { λ r. ⌜ r ≡ elem opcode (0 ∷ 4 ∷ []) ⌝ }
+    ensures { λ r. ⌜ r ≡ elem opcode (opcodeMOVE ∷ opcodeGETUPVAL ∷ []) ⌝ }
 {
     if opcode == MOVE {
         return true;
@@ -427,7 +427,7 @@ fn is_binding(opcode: u8) -> bool
 
 // The opcode, or the bits of -1 where it is unknown.
 fn opcode_value(opcode: u8) -> u32
-    ensures { λ r. ⌜ r ≡ cond (ltb 37 opcode) 0xffff_ffff opcode ⌝ }
+    ensures { λ r. ⌜ r ≡ cond (ltb VARARG opcode) 0xffff_ffff opcode ⌝ }
 {
     if LAST_OPCODE < opcode {
         return NONE;

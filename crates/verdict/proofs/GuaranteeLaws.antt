@@ -14,7 +14,7 @@ use Rattle.verdict.specs.Walk.{Verdict, diagnosticFields}
 use Rattle.verdict.specs.Image.{Image, imageProtos, diagnostics, verdict}
 use Rattle.verdict.specs.Check.{Checked, checked, checkRefusal, checkAnswer, diagnosticsAfter}
 use Rattle.verdict.specs.Statements.{Accepted, Guarantee}
-use Rattle.opcodes.proofs.AllLaws.{all-imp}
+use Rattle.opcodes.proofs.AllLaws.{all-imp, all-of}
 use Rattle.roles.proofs.UntouchedLaws.{refused-leaves, refused-before}
 use Rattle.opcodes.proofs.ListLaws.{length-flatMap}
 use Rattle.roles.proofs.WrittenLaws.{accepted-none, accepted-result, written, fits, roles-written}
@@ -37,6 +37,7 @@ check-guaranteed i roleLength diagnosticLength c e =
     record {
       verdict = v;
       count = n;
+      safe = all-of runs-safe (imageProtos i);
       valid = λ q. all-imp (λ p w. record { wellFormed = w; runs = runs-safe p w }) (valid-well-formed i (sym v ∙ q));
       exact = λ z h. verdict-iff v (valid-well-formed i, well-formed-valid i z h);
       invalid = verdict-iff v (invalid-iff i);

@@ -12,9 +12,9 @@ use lib.IntN.{pos, negsuc}
 use borrow.Author.Tests.{lt-leb, lt-ltb, le-ltb, eqb-false, ne-eqb}
 use Rattle.opcodes.specs.Lists.{All, all-nil, all-cons, only, upFrom, select, keepIf, any, Some, here, there}
 use Rattle.roles.specs.Table.{Proto}
-use Rattle.verdict.specs.Diagnostics.{Diagnostic, isError, truncationAt, hasLargeStack, stackDiagnostics, diagnosticsAt, Step, testedStep, untestedStep, protoSteps}
+use Rattle.verdict.specs.Diagnostics.{Diagnostic, truncationAt, hasLargeStack, stackDiagnostics, diagnosticsAt, Step, testedStep, untestedStep, protoSteps}
 use Rattle.verdict.specs.Rules.{WellFormed}
-use Rattle.verdict.specs.Walk.{RowDiagnostic, inRow, MAX-DIAGNOSTICS, Walk, start, countN, advance, walkRow, walkFrom, walk, Verdict, ValidForParser, Incomplete, Invalid, limitReached, hasErrors, verdictOf}
+use Rattle.verdict.specs.Walk.{RowDiagnostic, inRow, MAX-DIAGNOSTICS, Walk, start, countN, advance, walkRow, walkFrom, walk, Verdict, ValidForParser, Incomplete, Invalid, limitReached, hasErrors, verdictOf, errorIn}
 use Rattle.verdict.specs.Image.{Image, imageProtos, imageWalk, diagnostics, verdict}
 use Rattle.verdict.specs.Statements.{largeStacks, IsError}
 use Rattle.opcodes.proofs.AllLaws.{all-append, all-left, all-right, all-head, all-tail, flatten-all, map-all, all-map, flatMap-all, flatMap-none, upTo-all, all-of, all-imp}
@@ -168,9 +168,6 @@ walk-kept incoming row v (p ∷ ps) (all-cons k ks) c h =
     (omega (arith, large-cons p ps, length-after row v p)))
 
 -- ---- the verdict
-
-abbrev errorIn : RowDiagnostic → Bool
-errorIn d = isError (d .diagnostic)
 
 no-error : (ds : List RowDiagnostic) → any errorIn ds ≡ false → All RowWarns ds
 no-error [] e = all-nil

@@ -7,7 +7,7 @@ use lib.ListN.{length}
 use Rattle.opcodes.specs.Bytes.{i32Record}
 use Rattle.roles.specs.Refusals.{Refused, orElse, rolesRefusal, tooShort}
 use Rattle.roles.specs.Calls.{Answer, answer, filled}
-use Rattle.verdict.specs.Walk.{Verdict, diagnosticFields}
+use Rattle.verdict.specs.Walk.{Verdict, diagnosticFields, diagnosticBytes}
 use Rattle.verdict.specs.Image.{Image, diagnostics, verdict}
 
 -- "The check's result is the verdict and the number of findings"
@@ -22,7 +22,7 @@ checked i = record { verdict = verdict i; count = length (diagnostics i) }
 -- 1 to 8, with the role buffer and the diagnostics buffer given by their lengths
 unfoldable pub checkRefusal : Image → ℕ → ℕ → Option Refused
 checkRefusal i roleLength diagnosticLength =
-    orElse (rolesRefusal (i .table) (i .words) roleLength) (tooShort (length (diagnostics i)) 16 diagnosticLength)
+    orElse (rolesRefusal (i .table) (i .words) roleLength) (tooShort (length (diagnostics i)) diagnosticBytes diagnosticLength)
 
 -- the verdict and the number, or the refusal
 unfoldable pub checkAnswer : Image → ℕ → ℕ → Answer Checked

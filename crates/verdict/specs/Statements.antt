@@ -79,6 +79,8 @@ pub record Guarantee (i : Image) (c : Checked) : Type 0 where
   -- verdict and number are those of document 01's diagnostics
   pub verdict : c .verdict ≡ verdict i
   pub count : c .count ≡ length (diagnostics i)
+  -- a prototype that keeps the rules: every run of it is safe, whatever the verdict
+  pub safe : All (λ p. WellFormed p → (choices : List Bool) → SafeRun p choices) (imageProtos i)
   -- ValidForParser, whatever came in: every prototype keeps the rules, and every run of it is safe
   pub valid : c .verdict ≡ ValidForParser → All Passed (imageProtos i)
   -- and exactly then, with no incoming error, and incoming warnings and prototypes with stack above 250 together below 10,000

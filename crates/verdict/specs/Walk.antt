@@ -59,9 +59,13 @@ walk incoming all = walkFrom incoming 0 start all
 unfoldable pub limitReached : ℕ → Walk → Bool
 limitReached incoming v = v .ended || ltb MAX-DIAGNOSTICS (countN incoming v)
 
+-- an error among those of all rows
+abbrev pub errorIn : RowDiagnostic → Bool
+errorIn d = isError (d .diagnostic)
+
 -- "any error, incoming or found"
 unfoldable pub hasErrors : ℕ → Walk → Bool
-hasErrors errors v = ltb 0 errors || any (λ (d : RowDiagnostic). isError (d .diagnostic)) (v .found)
+hasErrors errors v = ltb 0 errors || any errorIn (v .found)
 
 -- the three verdicts
 pub data Verdict : Type 0 where
@@ -76,3 +80,7 @@ verdictOf false false = ValidForParser
 -- "Four i32: row, place, code, value"
 unfoldable pub diagnosticFields : RowDiagnostic → List ℤ
 diagnosticFields d = pos (d .row) ∷ d .diagnostic .pc ∷ pos (d .diagnostic .code) ∷ d .diagnostic .value ∷ []
+
+-- the length of such a record in bytes
+abbrev pub diagnosticBytes : ℕ
+diagnosticBytes = 16

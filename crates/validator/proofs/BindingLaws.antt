@@ -7,13 +7,12 @@ use mathlib.Core.Bool.{Bool, true, false, _&&_, not, cond, or-false, true≢fals
 use mathlib.Core.List.{List, [], _∷_, _++_, flatMap, flatten, append-nil}
 use lib.Dec.{T, eqb, ltb, leb}
 use lib.IntN.{pos, negsuc}
-use lib.ListN.{length, getD, List·getD-eq-default}
+use lib.ListN.{length, List·getD-eq-default}
 use borrow.Author.Tests.{leb-true, leb-false, ltb-true, ltb-false, lt-ltb}
 use Rattle.opcodes.specs.Bytes.{u32At, i32Bits}
 use Rattle.opcodes.specs.Lists.{elem, only, upFrom}
 use Rattle.opcodes.specs.Words.{B, opcode, operand, is, decoded, CLOSURE, SETLIST}
 use Rattle.opcodes.specs.declared.RawInstruction51.{RawInstruction51}
-use Rattle.opcodes.proofs.ByteLaws.{getD-u32s, length-u32s}
 use Rattle.opcodes.proofs.ListLaws.{flatMap-append, upFrom-append}
 use Rattle.opcodes.proofs.TestLaws.{T-true, is-not}
 use Rattle.roles.specs.Contracts.{roleIn}
@@ -28,7 +27,7 @@ use Rattle.validator.specs.Steps.{State, emittedIf, emitAll}
 use Rattle.validator.specs.declared.prototype.Prototype.{Prototype}
 use Rattle.validator.proofs.EmitLaws.{emits-only, emits-then, emits-none}
 use Rattle.validator.proofs.FaultLaws.{claims-count}
-use Rattle.validator.proofs.WordLaws.{looked-up}
+use Rattle.validator.proofs.DescribedLaws.{looked-up, word-read, words-of}
 
 -- ---- one
 
@@ -60,11 +59,6 @@ bad-binding row pc w r split b v s t e f g =
     g
     ∙ ap₂ (λ (x : Bool) (y : ℕ). emittedIf (not x) row pc 17 y s) (e ∙ ap (λ (m : ℕ). elem m (0 ∷ 4 ∷ [])) n) (f ∙ ap (λ (m : ℕ). cond (ltb 37 m) 4294967295 m) n ∙ opcode-bits w)
     ∙ emits-only row (not (isBinding w)) (diagnostic pc 17 (opcodeValue w)) s
-
--- the words of a prototype, read from its bytes
-pub word-read : (p : Proto) (q : Prototype) (code records : List ℕ) → Describes p q code records → (pc : ℕ) → pc < length code / 4 → u32At code (4 * pc) ≡ wordAt p pc
-unfolding wordAt
-word-read p q code records d pc h = sym (ap (λ (l : List ℕ). getD l pc 0) (d .code) ∙ getD-u32s code pc h)
 
 -- all that the binding word w at pc adds, with the limits that the code has
 abbrev pub bindingAdds : Prototype → ℕ → ℕ → List Diagnostic
@@ -181,7 +175,7 @@ module _ (q : Prototype) (code records : List ℕ) (pc : ℕ) (s₀ : State) whe
   module _ (s : State) (at : ℕ) (pass : BindingPass q code records pc s₀ s at) (b : Bool) (looked : b ≡ not (isExecutable (roleIn records at))) where
     -- the role that was looked up
     role-there : (p : Proto) → Describes p q code records → (c : Bool) → b ≡ not c → isExecutable (roleAt p at) ≡ c
-    role-there p d c e = looked-up p q records (d .stands) at b c looked e
+    role-there p d c e = looked-up p q code records d at b c looked e
 
     pub pass-next : b ≡ true → (t : State) (w : ℕ) → length (t .1) ≡ length (s .1) → w ≡ u32At code (4 * at) → t ≡ emitAll (q .row) (bindingAdds q at w) s → BindingPass q code records pc s₀ t (at + 1)
     pass-next e t w size read added =
@@ -192,7 +186,7 @@ module _ (q : Prototype) (code records : List ℕ) (pc : ℕ) (s₀ : State) whe
           done = λ p d x c.
               let row = q .row in
               let f : ℕ → List Diagnostic = bindingDiagnostics p in
-              let there : at < length code / 4 = omega (arith, companion-exists p at (role-there p d false e), ap length (d .code), length-u32s code) in
+              let there : at < length code / 4 = omega (arith, companion-exists p at (role-there p d false e), words-of p q code records d) in
               let count : at + 1 - (pc + 1) ≡ at - (pc + 1) + 1 = omega (arith, pass .later) in
               let here : pc + 1 + (at - (pc + 1)) ≡ at = omega (arith, pass .later) in
               emits-then row (flatMap f (upFrom (pc + 1) (at - (pc + 1)))) (f at) s₀ s t (pass .done p d x c) (added ∙ ap (λ (ds : List Diagnostic). emitAll row ds s) (binding-by p q code records d at w there read))

@@ -7,19 +7,13 @@ use mathlib.Core.List.{List}
 use lib.ListN.{length, drop}
 use Rattle.opcodes.specs.Bytes.{u32s}
 use Rattle.roles.specs.Contracts.{protoIn}
-use Rattle.roles.specs.Refusals.{maxRows}
 use Rattle.roles.specs.Table.{rowBytes, rowAt}
-use Rattle.roles.proofs.RefusalLaws.{image-kept}
-use Rattle.roles.proofs.TableLaws.{length-rows}
 use Rattle.verdict.specs.Diagnostics.{protoSteps}
 use Rattle.validator.specs.Contracts.{prototypeOf}
 use Rattle.validator.specs.Steps.{State, Ready, testedOf, movedTo, ownSteps, stepRow, walkTo}
 use Rattle.validator.specs.declared.prototype.Prototype.{Prototype}
 use Rattle.validator.specs.declared.walk.WalkState.{WalkState}
 use Rattle.validator.proofs.RowLaws.{Begins, More, steps-row, step-begins, step-going, part-walked, tested-ended, child-rest, child-ended, child-moves, child-begins}
-
-pub few-rows : (table words roles : List ℕ) (w : WalkState) → Ready table words roles w → length table / rowBytes ≤ maxRows
-few-rows table words roles w ready = omega (arith, image-kept table words (ready .filled .accepted) .row-limit, length-rows table)
 
 -- ---- a row, and then the rows below it
 

@@ -14,7 +14,6 @@ use Rattle.opcodes.specs.Lists.{All, all-nil, all-cons, upFrom, tabulate, only}
 use Rattle.opcodes.specs.Words.{is, decoded, operand, fieldBx, C, CLOSURE, SETLIST}
 use Rattle.opcodes.specs.declared.RawInstruction51.{RawInstruction51}
 use Rattle.opcodes.proofs.AllLaws.{all-append, all-at, all-upFrom, all-upTo, flatMap-none}
-use Rattle.opcodes.proofs.ByteLaws.{length-u32s, getD-u32s}
 use Rattle.opcodes.proofs.ListLaws.{length-tabulate, upFrom-append, flatMap-append}
 use Rattle.roles.specs.Table.{Proto, rowAt, rows, childAt}
 use Rattle.roles.specs.Contracts.{childFrom, childOfRow, childBindings, protoIn, roleIn}
@@ -23,10 +22,10 @@ use Rattle.roles.specs.declared.table.Child.the-variants as child
 use Rattle.roles.specs.Roles.{Role, Instruction, ClosureBinding, SetlistExtra, isExecutable, executableAt, Executable, bindingCount, hasExtra, claims, roleAt, wordAt, owned, existing, companions, isTruncated}
 use Rattle.roles.proofs.RoleLaws.{executable-role, exists, role, executable, first-executable, next-executable, owned-count, owned-role}
 use Rattle.roles.proofs.OwnerLaws.{has-opcode, has-other}
-use Rattle.roles.proofs.RolePassLaws.{code-of}
 use Rattle.roles.proofs.SearchLaws.{FoundChild, found-child, missing-child, anew}
 use Rattle.verdict.specs.Diagnostics.{diagnostic, truncationAt}
-use Rattle.validator.specs.Contracts.{lastOwner, faultDiagnostics, prototypeOf}
+use Rattle.validator.specs.Contracts.{Describes, lastOwner, faultDiagnostics, prototypeOf}
+use Rattle.validator.proofs.DescribedLaws.{word-read, words-of}
 use Rattle.validator.specs.declared.fault.Lua51RoleFault.the-variants as fault
 use Rattle.validator.specs.declared.prototype.Prototype.{Prototype}
 
@@ -238,34 +237,26 @@ module _ (table : List ℕ) (q : Prototype) (same : q ≡ prototypeOf table (q .
     child-missed e = let none = missing-child table (q .row) k (sym e ∙ child-is) in cc
 
   -- its words, and the last one's owner
-  module _ (code roles : List ℕ) (named : (pc : ℕ) → roleIn roles pc ≡ roleAt (protoIn table (q .row) (u32s code)) pc) (stated : length code / 4 ≡ q .words) (some : length code / 4 ≡ 0 → ⊥) where
+  module _ (code records : List ℕ) (d : Describes (protoIn table (q .row) (u32s code)) q code records) (some : length code / 4 ≡ 0 → ⊥) where
     abbrev proto : Proto
     proto = protoIn table (q .row) (u32s code)
 
     abbrev size : ℕ
     size = length code / 4
 
-    code-is : proto .code ≡ u32s code
-    unfolding prototypeOf
-    code-is = code-of table (q .row) code (sym (stated ∙ ap (λ (x : Prototype). x .words) same))
-
-    word-is : (o : ℕ) → o < size → wordAt proto o ≡ u32At code (4 * o)
-    unfolding wordAt
-    word-is o h = ap (λ (l : List ℕ). getD l o 0) code-is ∙ getD-u32s code o h
-
-    module _ (o w m : ℕ) (r : RawInstruction51) (place : o ≡ lastOwner (size - 1) (roleIn roles (size - 1))) (read : w ≡ u32At code (4 * o)) (split : r ≡ decoded w)
+    module _ (o w m : ℕ) (r : RawInstruction51) (place : o ≡ lastOwner (size - 1) (roleIn records (size - 1))) (read : w ≡ u32At code (4 * o)) (split : r ≡ decoded w)
         (count : (pc : ℕ) (words : List ℕ) → m ≡ length (claims (protoIn table (q .row) words) pc (r .raw))) where
       words-are : length (proto .code) ≡ size
-      words-are = ap length code-is ∙ length-u32s code
+      words-are = sym (words-of proto q code records d)
 
       place-is : o ≡ lastOwner (size - 1) (roleAt proto (size - 1))
-      place-is = place ∙ ap (lastOwner (size - 1)) (named (size - 1))
+      place-is = place ∙ ap (lastOwner (size - 1)) (d .stands .roles (size - 1))
 
       there : o < size
       there = omega (arith, place-is, owner-of proto (size - 1) (omega (arith, words-are)) .after)
 
       bits : wordAt proto o ≡ r .raw
-      bits = word-is o there ∙ sym (raw-of w r split ∙ read)
+      bits = sym (raw-of w r split ∙ read ∙ word-read proto q code records d o there)
 
       again : r ≡ decoded (r .raw)
       again = split-again w r split

@@ -2,6 +2,7 @@ pub mod BindingLaws
 pub mod CheckLaws
 pub mod ChildCountLaws
 pub mod CycleLaws
+pub mod DescribedLaws
 pub mod EmitLaws
 pub mod FaultLaws
 pub mod KnownLaws

@@ -10,7 +10,6 @@ use lib.IntN.{pos, negsuc}
 use lib.ListN.{length}
 use Rattle.opcodes.specs.Bytes.{i32Bits}
 use Rattle.opcodes.specs.Lists.{upFrom}
-use Rattle.opcodes.proofs.ByteLaws.{length-u32s}
 use Rattle.opcodes.proofs.TestLaws.{T-true}
 use Rattle.roles.specs.Contracts.{roleIn}
 use Rattle.roles.specs.Roles.{Executable, executableAt, isExecutable, wordAt}
@@ -23,7 +22,7 @@ use Rattle.validator.specs.declared.fault.Lua51RoleFault.{Lua51RoleFault
 use Rattle.validator.specs.declared.prototype.Prototype.{Prototype}
 use Rattle.validator.specs.declared.walk.WalkState.{WalkState}
 use Rattle.validator.proofs.EmitLaws.{emits-none, emits-only}
-use Rattle.validator.proofs.WordLaws.{looked-up}
+use Rattle.validator.proofs.DescribedLaws.{looked-up, words-of}
 use Rattle.validator.proofs.RowLaws.{tested-step, steps-ended}
 
 -- ---- the stack and the truncated owner
@@ -41,14 +40,14 @@ fault-steps row found told s t e f = f ∙ ap (λ (x : Lua51RoleFault). foldl (a
 
 pub executes : (p : Proto) (q : Prototype) (code records : List ℕ) → Describes p q code records → (pc : ℕ) → pc < length code / 4 → (b : Bool) → b ≡ not (isExecutable (roleIn records pc)) → b ≡ false → Executable p pc
 executes p q code records d pc h b e f =
-    executable p pc (omega (arith, h, ap length (d .code), length-u32s code)) (subst T (sym (looked-up p q records (d .stands) pc b true e f)) tt)
+    executable p pc (omega (arith, h, words-of p q code records d)) (subst T (sym (looked-up p q code records d pc b true e f)) tt)
 
 -- a companion adds nothing
 pub companion-adds : (row : ℕ) (s : State) (p : Proto) (q : Prototype) (code records : List ℕ) → Describes p q code records → (pc : ℕ) (b : Bool) → b ≡ not (isExecutable (roleIn records pc)) → b ≡ true
     → s ≡ emitAll row (diagnosticsAt p pc) s
 unfolding diagnosticsAt executableAt
 companion-adds row s p q code records d pc b e f =
-    rw (looked-up p q records (d .stands) pc b false e f, and-false) (emits-none row s)
+    rw (looked-up p q code records d pc b false e f, and-false) (emits-none row s)
 
 -- an executable word adds its own
 pub word-adds : (row pc : ℕ) (p : Proto) (s t : State) → Executable p pc → t ≡ emitAll row (wordDiagnostics p pc (wordAt p pc)) s → t ≡ emitAll row (diagnosticsAt p pc) s
@@ -92,10 +91,6 @@ module _ (q : Prototype) (code records : List ℕ) (n : ℕ) (s₀ : State) wher
       words-stop l p d = sym (steps-ended (q .row) t (map (wordStep p) (upFrom (pc + 1) (n - (pc + 1)))) l) ∙ onwards p d
 
 -- ---- all of them
-
--- the code has all words
-pub words-of : (p : Proto) (q : Prototype) (code records : List ℕ) → Describes p q code records → length code / 4 ≡ length (p .code)
-words-of p q code records d = sym (ap length (d .code) ∙ length-u32s code)
 
 -- a diagnostic of a truncated owner, after a test
 abbrev faultStep : Diagnostic → Step

@@ -21,6 +21,9 @@ use Rattle.validator.specs.Steps.{State, Ready, advance, ownSteps}
 use Rattle.validator.specs.declared.prototype.Prototype.{Prototype}
 use Rattle.validator.specs.declared.walk.WalkState.{WalkState}
 
+pub few-rows : (table words roles : List ℕ) (w : WalkState) → Ready table words roles w → length table / rowBytes ≤ maxRows
+few-rows table words roles w ready = omega (arith, image-kept table words (ready .filled .accepted) .row-limit, length-rows table)
+
 -- the numbers that the code's arithmetic needs
 pub record Room (table words roles : List ℕ) (row first next : ℕ) : Type 0 where
   pub few : length table / rowBytes ≤ maxRows
@@ -48,7 +51,7 @@ module _ (table words roles : List ℕ) (w : WalkState) (ready : Ready table wor
       let kept : ImageKept table words = image-kept table words (ready .filled .accepted) in
       let total : next ≤ wordTotal (rows table) = omega (arith, words-next table (w .row) there, words-front (rows table) (suc (w .row)), ready .begins, stated) in
       record {
-        few = omega (arith, kept .row-limit, length-rows table);
+        few = few-rows table words roles w ready;
         row-there = omega arith;
         after = omega arith;
         within = omega (arith, kept .word-count);

@@ -35,16 +35,6 @@ use Rattle.validator.proofs.OperandLaws.{listed, not-unknown, value-a}
 pub told-companion : (found told : Lua51PhysicalRole) (role : Role) → roleOf found ≡ role → found ≡ told → not (isExecutable (roleOf told)) ≡ not (isExecutable role)
 told-companion found told role e q = ap (λ (r : Role). not (isExecutable r)) (ap roleOf (sym q) ∙ e)
 
-not-same : (a b : Bool) → not a ≡ not b → a ≡ b
-not-same true true e = refl
-not-same true false e = sym e
-not-same false true e = sym e
-not-same false false e = refl
-
--- what the code was told of the role at pc holds of the word's role
-pub looked-up : (p : Proto) (q : Prototype) (records : List ℕ) → Stands p q records → (pc : ℕ) (b c : Bool) → b ≡ not (isExecutable (roleIn records pc)) → b ≡ not c → isExecutable (roleAt p pc) ≡ c
-looked-up p q records h pc b c e f = not-same (isExecutable (roleAt p pc)) c (ap (λ (r : Role). not (isExecutable r)) (sym (h .roles pc)) ∙ sym e ∙ f)
-
 -- ---- operands
 
 -- an operand that was checked, by another name

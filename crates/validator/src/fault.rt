@@ -17,10 +17,10 @@ ghost use Rattle.opcodes.specs.Lists.{upFrom};
 ghost use Rattle.opcodes.specs.Words.{decoded};
 ghost use Rattle.roles.specs.Contracts.{protoIn, roleIn};
 ghost use Rattle.roles.specs.Refusals.{maxRows, maxWordBytes};
-ghost use Rattle.roles.specs.Roles.{claims, roleAt};
+ghost use Rattle.roles.specs.Roles.{claims};
 ghost use Rattle.roles.specs.Table.{rowBytes};
 ghost use Rattle.verdict.specs.Diagnostics.{truncationAt};
-ghost use Rattle.validator.specs.Contracts.{faultDiagnostics, lastOwner, prototypeOf};
+ghost use Rattle.validator.specs.Contracts.{Describes, faultDiagnostics, lastOwner, prototypeOf};
 
 // The opcodes that own words, by their numbers.
 const SETLIST: u8 = 34;
@@ -38,8 +38,7 @@ pub enum Lua51RoleFault {
 pub fn find_fault(protos: &[u8], proto: Prototype, code: &[u8], roles: &[u8]) -> Lua51RoleFault
     requires { ⌜ (rowBytes * proto .row + rowBytes ≤ length (now protos)) × (length (now protos) / rowBytes ≤ maxRows) × (length (now code) ≤ maxWordBytes) ⌝ }
     requires { ⌜ proto ≡ prototypeOf (now protos) (proto .row) ⌝ }
-    requires { ⌜ ((pc : ℕ) → roleIn (now roles) pc ≡ roleAt (protoIn (now protos) (proto .row) (u32s (now code))) pc) ⌝ }
-    requires { ⌜ length (now code) / 4 ≡ proto .words ⌝ }
+    requires { ⌜ Describes (protoIn (now protos) (proto .row) (u32s (now code))) proto (now code) (now roles) ⌝ }
     ensures { λ r. ⌜ faultDiagnostics r ≡ flatMap (truncationAt (protoIn (now (protos .entry)) (proto .row) (u32s (now (code .entry))))) (upFrom 0 (length (now (code .entry)) / 4)) ⌝ }
 {
     let n = code.len() / 4;

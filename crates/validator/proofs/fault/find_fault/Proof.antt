@@ -31,14 +31,14 @@ find-fault-spec =
     (λ c.
     let b = c .before .before .before .before .before in
     let pre = b .before .before .before .before .pre in
-    no-fault _ _ (pre .1 .0) _ _ (pre .1 .1 .0) (pre .1 .1 .1) (b .if1 .left) _ _ _ _ (c .before .before .before .before .last-owner .ensures) (c .before .before .before .read-u32 .ensures) (c .before .before .decode .ensures) (c .before .owned-words .ensures) (c .if2 .taken))
+    no-fault _ _ (pre .1 .0) _ _ (pre .1 .1) (b .if1 .left) _ _ _ _ (c .before .before .before .before .last-owner .ensures) (c .before .before .before .read-u32 .ensures) (c .before .before .decode .ensures) (c .before .owned-words .ensures) (c .if2 .taken))
     (λ c.
     let a = c .before .before in
     let b = a .before .before .before .before .before in
     let pre = b .before .before .before .before .pre in
-    closure-fault _ _ (pre .1 .0) _ _ (pre .1 .1 .0) (pre .1 .1 .1) (b .if1 .left) _ _ _ _ (a .before .before .before .before .last-owner .ensures) (a .before .before .before .read-u32 .ensures) (a .before .before .decode .ensures) (a .before .owned-words .ensures) (a .if2 .left) (c .if3 .taken))
+    closure-fault _ _ (pre .1 .0) _ _ (pre .1 .1) (b .if1 .left) _ _ _ _ (a .before .before .before .before .last-owner .ensures) (a .before .before .before .read-u32 .ensures) (a .before .before .decode .ensures) (a .before .owned-words .ensures) (a .if2 .left) (c .if3 .taken))
     (λ c.
     let a = c .before .before in
     let b = a .before .before .before .before .before in
     let pre = b .before .before .before .before .pre in
-    setlist-fault _ _ (pre .1 .0) _ _ (pre .1 .1 .0) (pre .1 .1 .1) (b .if1 .left) _ _ _ _ (a .before .before .before .before .last-owner .ensures) (a .before .before .before .read-u32 .ensures) (a .before .before .decode .ensures) (a .before .owned-words .ensures) (a .if2 .left) (c .if3 .left)))
+    setlist-fault _ _ (pre .1 .0) _ _ (pre .1 .1) (b .if1 .left) _ _ _ _ (a .before .before .before .before .last-owner .ensures) (a .before .before .before .read-u32 .ensures) (a .before .before .decode .ensures) (a .before .owned-words .ensures) (a .if2 .left) (c .if3 .left)))

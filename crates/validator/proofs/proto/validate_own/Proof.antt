@@ -1,7 +1,6 @@
 -- `validate_own` meets its contract: ended at the first test or at the fault, or through to the last word. Assumes nothing.
-use mathlib.Core.Path.{_∙_}
 use borrow.Author.Needs.{needs}
-use Rattle.validator.proofs.OwnLaws.{words-of, own-test, own-fault, own-words, faulted, worded}
+use Rattle.validator.proofs.OwnLaws.{own-test, own-fault, own-words, faulted, worded}
 use Rattle.validator.proofs.proto.validate_own.Statement.{statement}
 use Rattle.validator.proofs.proto.validate_own.Tie as tie
 
@@ -24,8 +23,7 @@ validate-own-spec =
     (λ c. own-test _ _ _ _ (c .before .tested .ensures) (c .if1 .taken))
     (λ c κs.
     let pre = c .before .before .before .before .before .before .before .pre in
-    let d = pre .1 .1 .1 in
-    ((pre .0 .0, pre .0 .1, pre .1 .0 .0), (pre .1 .1 .0, (d .stands .roles, words-of _ _ _ _ d ∙ d .stands .words))))
+    ((pre .0 .0, pre .0 .1, pre .1 .0 .0), pre .1 .1))
     (λ c κs. search needs)
     (λ c. search needs)
     returns-2

@@ -2,7 +2,7 @@
 use native.Mathlib.Omega.{arith}
 use mathlib.Core.Path.{_∙_}
 use borrow.Author.Needs.{needs}
-use Rattle.validator.proofs.BindingLaws.{word-read}
+use Rattle.validator.proofs.DescribedLaws.{word-read}
 use Rattle.validator.proofs.KnownLaws.{decodes, word-unknown, word-known, binds, no-bindings}
 use Rattle.validator.proofs.word.validate_word.Statement.{statement}
 use Rattle.validator.proofs.word.validate_word.Tie as tie

@@ -9,8 +9,8 @@ use Rattle.roles.specs.Calls.{Answer, refused, accepted}
 use Rattle.verdict.specs.Walk.{Verdict, ValidForParser, Incomplete, Invalid, RowDiagnostic}
 use Rattle.verdict.specs.Image.{Image, diagnostics}
 use Rattle.verdict.specs.Check.{Checked, checkAnswer}
-use Rattle.packcheck.specs.Text.{text, line, decimal, integer}
-use Rattle.packcheck.specs.Listing.{Read, stopped, done, maxWords, readListing}
+use Rattle.listing.specs.Text.{text, line, decimal, integer}
+use Rattle.listing.specs.Listing.{Read, stopped, done, maxWords, readListing}
 
 -- the names of the codes, from 1
 unfoldable pub codeNames : List String

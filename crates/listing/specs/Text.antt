@@ -75,9 +75,9 @@ unfoldable pub digits : ℕ → ℕ → List ℕ
 digits zero n = []
 digits (suc most) n = let front = digits most (n / 10) in cond (ltb n 10) [] front ++ ((48 + n % 10) ∷ [])
 
--- a number below 10 ^ 20
+-- a number below 10 ^ 10, as each u32 is
 unfoldable pub decimal : ℕ → List ℕ
-decimal n = digits 20 n
+decimal n = digits 10 n
 
 -- with a sign where it is negative
 unfoldable pub integer : ℤ → List ℕ

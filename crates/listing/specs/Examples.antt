@@ -2,7 +2,7 @@
 use Prim.Native.Nat.{ℕ}
 use Prim.Native.String.{String}
 use mathlib.Core.List.{List, [], _∷_, flatMap}
-use Rattle.packcheck.specs.Text.{text}
+use Rattle.listing.specs.Text.{text}
 
 -- an input and the whole output
 pub record Example : Type 0 where

@@ -12,7 +12,7 @@ use Rattle.opcodes.specs.Bytes.{u32Record}
 use Rattle.roles.specs.Table.{rowFields}
 use Rattle.roles.specs.Refusals.{Refused}
 use Rattle.verdict.specs.Image.{Image}
-use Rattle.packcheck.specs.Text.{text, newline, space, same, lines, isDigit, isHexDigit, valueOf, isDecimal}
+use Rattle.listing.specs.Text.{text, newline, space, same, lines, isDigit, isHexDigit, valueOf, isDecimal}
 
 -- ---- the forms of a line
 

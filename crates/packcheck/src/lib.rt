@@ -1,1 +1,0 @@
-// The program packcheck: so far as definitions, in specs/.

@@ -3,6 +3,7 @@ pub mod ExecutionLaws
 pub mod GuaranteeLaws
 pub mod LimitLaws
 pub mod MostLaws
+pub mod RangeLaws
 pub mod RuleLaws
 pub mod Theorems
 pub mod TreeLaws

@@ -39,7 +39,8 @@ _also_ : {A : Type 0} {a : List A} {L : List (List A)} {n m : ℕ} → length a 
 unfolding flatten
 _also_ {A} {a} {L} {n} {m} h k = record { most = omega (arith, length-append a (flatten L), k .most) }
 
-only-most : {A : Type 0} (b : Bool) (x : A) → length (only b x) ≤ 1
+-- a test that passes gives one, another none
+pub only-most : {A : Type 0} (b : Bool) (x : A) → length (only b x) ≤ 1
 unfolding only
 only-most true x = omega arith
 only-most false x = omega arith

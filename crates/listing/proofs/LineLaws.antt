@@ -1,0 +1,153 @@
+-- Laws of lines, of texts that are the same, and of digits. Assumes nothing.
+use Prim.Native.Nat.{ℕ, zero, suc, _+_, _*_, _^_, _≤_, _<_}
+use native.Mathlib.Nat.{pow-succ', mul-le-mul-right, pow-le-pow-right}
+use native.Mathlib.Omega.{arith}
+use mathlib.Core.Path.{_≡_, refl, sym, _∙_, ap, ap₂, subst}
+use mathlib.Core.Bool.{Bool, true, false, not, _&&_, _||_, cond}
+use mathlib.Core.List.{List, [], _∷_, _++_, foldl, foldl-append, flatten}
+use lib.Dec.{T, eqb, leb, ltb, eqb→eq, eqb-refl, T-not, ltb→lt, leb→le}
+use lib.ListN.{length, getD, take, drop}
+use borrow.Author.Tests.{leb-true, leb-false, eqb-false, eq-eqb, ne-eqb}
+use Rattle.opcodes.specs.Lists.{elem, every, takeWhile, goOnIf}
+use Rattle.opcodes.proofs.TestLaws.{T-and, by-or, T-true, T-false, or-right, or-false}
+use Rattle.listing.specs.Text.{newline, same, joinFirst, lines, isDigit, digitValue, valueOf, isDecimal}
+
+-- ---- texts that are the same
+
+-- the test tells that two texts are one
+pub same-≡ : (l m : List ℕ) → T (same l m) → l ≡ m
+unfolding same
+same-≡ [] [] t = refl
+same-≡ [] (y ∷ ys) t = absurd t
+same-≡ (x ∷ xs) [] t = absurd t
+same-≡ (x ∷ xs) (y ∷ ys) t =
+    let both = T-and (eqb x y) (same xs ys) t in ap₂ (λ (c : ℕ) (l : List ℕ). c ∷ l) (eqb→eq x y (both .0)) (same-≡ xs ys (both .1))
+
+-- a text is the same as itself
+pub same-refl : (l : List ℕ) → same l l ≡ true
+unfolding same
+same-refl [] = refl
+same-refl (x ∷ xs) = rw (T-true (eqb x x) (eqb-refl x)) (same-refl xs)
+
+-- ---- a byte in a list
+
+-- a byte that stands at a place, and is not the one past the end, is an element
+pub getD-elem : (x : ℕ) (l : List ℕ) (k d : ℕ) → T (not (eqb d x)) → getD l k d ≡ x → T (elem x l)
+getD-elem x [] k d h e = absurd (T-not (eqb d x) h (subst (λ (n : ℕ). T (eqb d n)) e (eqb-refl d)))
+getD-elem x (y ∷ l) zero d h e = rw (eq-eqb x y (sym e)) tt
+getD-elem x (y ∷ l) (suc k) d h e = or-right (eqb x y) (elem x l) (getD-elem x l k d h e)
+
+-- what is an element of the rest of a list is one of the list
+pub elem-drop : (x n : ℕ) (l : List ℕ) → T (elem x (drop n l)) → T (elem x l)
+elem-drop x zero l t = t
+elem-drop x (suc n) [] t = t
+elem-drop x (suc n) (y ∷ l) t = or-right (eqb x y) (elem x l) (elem-drop x n l t)
+
+-- what is none of the first k, and not that of index k, is none of one more
+pub elem-take-next : (x : ℕ) (l : List ℕ) (k d : ℕ) → elem x (take k l) ≡ false → (getD l k d ≡ x → ⊥) → elem x (take (suc k) l) ≡ false
+elem-take-next x [] zero d e h = refl
+elem-take-next x [] (suc k) d e h = refl
+elem-take-next x (y ∷ l) zero d e h = rw (ne-eqb x y (λ q. h (sym q)))
+elem-take-next x (y ∷ l) (suc k) d e h =
+    let each = or-false (eqb x y) (elem x (take k l)) e in rw (each .0) (elem-take-next x l k d (each .1) h)
+
+-- ---- lines
+
+-- the lines, end to end, are the text
+pub flatten-lines : (xs : List ℕ) → flatten (lines xs) ≡ xs
+unfolding flatten lines joinFirst
+flatten-lines [] = refl
+flatten-lines (c ∷ cs) = go (eqb c newline) (lines cs) (flatten-lines cs)
+  where
+    join : (ls : List (List ℕ)) → flatten (joinFirst c ls) ≡ c ∷ flatten ls
+    join [] = refl
+    join (l ∷ ls) = refl
+
+    go : (b : Bool) (ls : List (List ℕ)) → flatten ls ≡ cs → flatten (cond b ((c ∷ []) ∷ ls) (joinFirst c ls)) ≡ c ∷ cs
+    go true ls e = ap (λ (l : List ℕ). c ∷ l) e
+    go false ls e = join ls ∙ ap (λ (l : List ℕ). c ∷ l) e
+
+no-newline : (c : ℕ) → eqb newline c ≡ false → eqb c newline ≡ false
+no-newline c e = ne-eqb c newline (λ q. eqb-false newline c e (sym q))
+
+-- the first line, where a newline ends it, and the lines after it
+pub lines-next : (l rest : List ℕ) → elem newline l ≡ false → lines (l ++ newline ∷ rest) ≡ (l ++ newline ∷ []) ∷ lines rest
+unfolding lines joinFirst
+lines-next [] rest e = refl
+lines-next (c ∷ cs) rest e =
+    let each = or-false (eqb newline c) (elem newline cs) e in rw (no-newline c (each .0)) (ap (joinFirst c) (lines-next cs rest (each .1)))
+
+-- the same by the index of the newline
+pub lines-at : (xs : List ℕ) (k : ℕ) → elem newline (take k xs) ≡ false → getD xs k 0 ≡ newline → lines xs ≡ take (suc k) xs ∷ lines (drop (suc k) xs)
+unfolding lines joinFirst
+lines-at [] k e h = absurd (omega arith)
+lines-at (c ∷ cs) zero e h = rw (eq-eqb c newline h)
+lines-at (c ∷ cs) (suc k) e h =
+    let each = or-false (eqb newline c) (elem newline (take k cs)) e in rw (no-newline c (each .0)) (ap (joinFirst c) (lines-at cs k (each .1) h))
+
+-- a line that the end of the text cuts
+pub lines-last : (c : ℕ) (cs : List ℕ) → elem newline (c ∷ cs) ≡ false → lines (c ∷ cs) ≡ (c ∷ cs) ∷ []
+unfolding lines joinFirst
+lines-last c [] e = rw (no-newline c (or-false (eqb newline c) false e .0))
+lines-last c (d ∷ cs) e =
+    let each = or-false (eqb newline c) (elem newline (d ∷ cs)) e in rw (no-newline c (each .0)) (ap (joinFirst c) (lines-last d cs (each .1)))
+
+-- ---- digits
+
+-- what takeWhile takes passes its test
+pub takeWhile-every : {A : Type 0} (f : A → Bool) (xs : List A) → T (every f (takeWhile f xs))
+takeWhile-every f [] = tt
+takeWhile-every f (x ∷ xs) = go (f x) refl (takeWhile-every f xs)
+  where
+    go : (b : Bool) → f x ≡ b → T (every f (takeWhile f xs)) → T (every f (goOnIf b x (takeWhile f xs)))
+    go true e t = rw e t
+    go false e t = tt
+
+-- it takes all that pass, up to one that does not
+pub takeWhile-stop : {A : Type 0} (f : A → Bool) (xs : List A) (y : A) (ys : List A) → T (every f xs) → f y ≡ false → takeWhile f (xs ++ y ∷ ys) ≡ xs
+takeWhile-stop f [] y ys t e = rw e
+takeWhile-stop f (x ∷ xs) y ys t e =
+    let both = T-and (f x) (every f xs) t in rw (T-true (f x) (both .0)) (ap (λ (l : List _). x ∷ l) (takeWhile-stop f xs y ys (both .1) e))
+
+-- the value with one digit more
+pub valueOf-next : (base : ℕ) (ds : List ℕ) (d : ℕ) → valueOf base (ds ++ d ∷ []) ≡ valueOf base ds * base + digitValue d
+unfolding valueOf
+valueOf-next base ds d = foldl-append (λ (n d : ℕ). n * base + digitValue d) 0 ds (d ∷ [])
+
+-- digits after a value multiply it
+valueFrom-least : (n : ℕ) (ds : List ℕ) → n * 10 ^ length ds ≤ foldl (λ (n d : ℕ). n * 10 + digitValue d) n ds
+valueFrom-least n [] = omega arith
+valueFrom-least n (d ∷ ds) = rw (pow-succ' 10 (length ds)) (omega (arith, valueFrom-least (n * 10 + digitValue d) ds))
+
+-- a digit that is not 0 has a value
+digitValue-least : (d : ℕ) → T (isDigit d) → T (not (eqb d 48)) → 0 < digitValue d
+unfolding isDigit digitValue
+digitValue-least d t u =
+    let from : 48 ≤ d = leb→le 48 d (T-and (leb 48 d) (leb d 57) t .0) in
+    let other : d ≡ 48 → ⊥ = eqb-false d 48 (T-false (eqb d 48) u) in
+    rw (T-true (isDigit d) t) (omega arith)
+
+few-digits : (v n value : ℕ) → 0 < v → v * 10 ^ n ≤ value → value < 2 ^ 32 → n < 10
+few-digits v n value p least below = go (leb 10 n) refl
+  where
+    go : (b : Bool) → leb 10 n ≡ b → n < 10
+    go true e =
+        let power : 10 ^ 10 ≤ 10 ^ n = pow-le-pow-right {n = 10} (omega arith) (leb-true 10 n e) in
+        omega (arith, mul-le-mul-right (10 ^ n) p)
+    go false e = leb-false 10 n e
+
+-- a decimal has at most ten digits
+pub decimal-digits : (ds : List ℕ) → T (every isDigit ds) → T (isDecimal ds) → length ds ≤ 10
+unfolding isDecimal valueOf
+decimal-digits [] t u = omega arith
+decimal-digits (d ∷ []) t u = omega arith
+decimal-digits (d ∷ e ∷ ds) t u =
+    let l = suc (suc (length ds)) in
+    let value = valueOf 10 (d ∷ e ∷ ds) in
+    let tests = T-and (ltb 0 l && (eqb l 1 || not (eqb d 48))) (ltb value (2 ^ 32)) u in
+    let first : T (not (eqb d 48)) = by-or (eqb l 1) (not (eqb d 48)) (λ v. absurd (two (eqb→eq l 1 v))) (λ v. v) (T-and (ltb 0 l) (eqb l 1 || not (eqb d 48)) (tests .0) .1) in
+    let nonzero : 0 < digitValue d = digitValue-least d (T-and (isDigit d) (every isDigit (e ∷ ds)) t .0) first in
+    few-digits (0 * 10 + digitValue d) (suc (length ds)) value (omega arith) (valueFrom-least (0 * 10 + digitValue d) (e ∷ ds)) (ltb→lt value (2 ^ 32) (tests .1))
+  where
+    two : suc (suc (length ds)) ≡ 1 → ⊥
+    two q = omega arith

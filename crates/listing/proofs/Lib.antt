@@ -1,2 +1,5 @@
 pub mod ExampleLaws
 pub mod LineLaws
+pub mod FormLaws
+pub mod LongestLaws
+pub mod PrefixLaws

@@ -11,6 +11,7 @@ use borrow.Author.Tests.{leb-true, leb-false, eqb-false, eq-eqb, ne-eqb}
 use Rattle.opcodes.specs.Lists.{elem, every, takeWhile, goOnIf}
 use Rattle.opcodes.proofs.TestLaws.{T-and, by-or, T-true, T-false, or-right, or-false}
 use Rattle.listing.specs.Text.{newline, same, joinFirst, lines, isDigit, digitValue, valueOf, isDecimal}
+use Rattle.listing.specs.Longest.{longestNumber}
 
 -- ---- texts that are the same
 
@@ -28,6 +29,10 @@ pub same-refl : (l : List ℕ) → same l l ≡ true
 unfolding same
 same-refl [] = refl
 same-refl (x ∷ xs) = rw (T-true (eqb x x) (eqb-refl x)) (same-refl xs)
+
+-- a test that fails, the other way round
+pub eqb-swap : (a b : ℕ) → eqb a b ≡ false → eqb b a ≡ false
+eqb-swap a b e = ne-eqb b a (λ q. eqb-false a b e (sym q))
 
 -- ---- a byte in a list
 
@@ -67,15 +72,12 @@ flatten-lines (c ∷ cs) = go (eqb c newline) (lines cs) (flatten-lines cs)
     go true ls e = ap (λ (l : List ℕ). c ∷ l) e
     go false ls e = join ls ∙ ap (λ (l : List ℕ). c ∷ l) e
 
-no-newline : (c : ℕ) → eqb newline c ≡ false → eqb c newline ≡ false
-no-newline c e = ne-eqb c newline (λ q. eqb-false newline c e (sym q))
-
 -- the first line, where a newline ends it, and the lines after it
 pub lines-next : (l rest : List ℕ) → elem newline l ≡ false → lines (l ++ newline ∷ rest) ≡ (l ++ newline ∷ []) ∷ lines rest
 unfolding lines joinFirst
 lines-next [] rest e = refl
 lines-next (c ∷ cs) rest e =
-    let each = or-false (eqb newline c) (elem newline cs) e in rw (no-newline c (each .0)) (ap (joinFirst c) (lines-next cs rest (each .1)))
+    let each = or-false (eqb newline c) (elem newline cs) e in rw (eqb-swap newline c (each .0)) (ap (joinFirst c) (lines-next cs rest (each .1)))
 
 -- the same by the index of the newline
 pub lines-at : (xs : List ℕ) (k : ℕ) → elem newline (take k xs) ≡ false → getD xs k 0 ≡ newline → lines xs ≡ take (suc k) xs ∷ lines (drop (suc k) xs)
@@ -83,14 +85,14 @@ unfolding lines joinFirst
 lines-at [] k e h = absurd (omega arith)
 lines-at (c ∷ cs) zero e h = rw (eq-eqb c newline h)
 lines-at (c ∷ cs) (suc k) e h =
-    let each = or-false (eqb newline c) (elem newline (take k cs)) e in rw (no-newline c (each .0)) (ap (joinFirst c) (lines-at cs k (each .1) h))
+    let each = or-false (eqb newline c) (elem newline (take k cs)) e in rw (eqb-swap newline c (each .0)) (ap (joinFirst c) (lines-at cs k (each .1) h))
 
 -- a line that the end of the text cuts
 pub lines-last : (c : ℕ) (cs : List ℕ) → elem newline (c ∷ cs) ≡ false → lines (c ∷ cs) ≡ (c ∷ cs) ∷ []
 unfolding lines joinFirst
-lines-last c [] e = rw (no-newline c (or-false (eqb newline c) false e .0))
+lines-last c [] e = rw (eqb-swap newline c (or-false (eqb newline c) false e .0))
 lines-last c (d ∷ cs) e =
-    let each = or-false (eqb newline c) (elem newline (d ∷ cs)) e in rw (no-newline c (each .0)) (ap (joinFirst c) (lines-last d cs (each .1)))
+    let each = or-false (eqb newline c) (elem newline (d ∷ cs)) e in rw (eqb-swap newline c (each .0)) (ap (joinFirst c) (lines-last d cs (each .1)))
 
 -- ---- digits
 
@@ -127,6 +129,7 @@ digitValue-least d t u =
     let other : d ≡ 48 → ⊥ = eqb-false d 48 (T-false (eqb d 48) u) in
     rw (T-true (isDigit d) t) (omega arith)
 
+-- ten digits after one that has a value are too many for a u32
 few-digits : (v n value : ℕ) → 0 < v → v * 10 ^ n ≤ value → value < 2 ^ 32 → n < 10
 few-digits v n value p least below = go (leb 10 n) refl
   where
@@ -136,8 +139,8 @@ few-digits v n value p least below = go (leb 10 n) refl
         omega (arith, mul-le-mul-right (10 ^ n) p)
     go false e = leb-false 10 n e
 
--- a decimal has at most ten digits
-pub decimal-digits : (ds : List ℕ) → T (every isDigit ds) → T (isDecimal ds) → length ds ≤ 10
+-- a decimal has at most as many digits as a u32
+pub decimal-digits : (ds : List ℕ) → T (every isDigit ds) → T (isDecimal ds) → length ds ≤ longestNumber
 unfolding isDecimal valueOf
 decimal-digits [] t u = omega arith
 decimal-digits (d ∷ []) t u = omega arith

@@ -106,7 +106,7 @@ module _ (old : List ℕ) (at : ℕ) (new more : List ℕ) (fits : at + length n
 
 -- ---- a record, value by value
 
-u32Record-append : (ms ns : List ℕ) → u32Record (ms ++ ns) ≡ u32Record ms ++ u32Record ns
+pub u32Record-append : (ms ns : List ℕ) → u32Record (ms ++ ns) ≡ u32Record ms ++ u32Record ns
 unfolding u32Record
 u32Record-append ms ns = flatMap-append u32Bytes ms ns
 

@@ -1,19 +1,22 @@
 //! `answers list [small|large|all [SEED]]` writes the list of images with luad's answers, by default the fixed one,
 //! and `answers list short` every short code; `answers counts` with the same arguments counts over it; `answers judge`
 //! reads images in the same format and writes them with luad's answers; `answers packcheck` reads a listing and writes
-//! what the program packcheck must print; `answers listings DIR` writes listings and what packcheck must print for
-//! them, as NAME.in and NAME.out.
+//! what the program packcheck must print. `answers listings DIR` writes the stored listings and what packcheck must
+//! print for them, as NAME.in and NAME.out, `answers long DIR` long inputs, and `answers random-listings SEED COUNT DIR`
+//! random ones; each counts the answers.
 use answers::calls::{calls, Calls};
 use answers::counts::Counts;
 use answers::families::{self, SEED};
 use answers::image::Image;
-use answers::listings::listings;
+use answers::listings::{long, random, stored, Listing};
 use answers::packcheck::packcheck;
 use answers::text::{read_images, write_record};
+use std::collections::BTreeMap;
 use std::io::{self, Read, Write};
 use std::path::Path;
 
-const USAGE: &str = "answers list or counts [short, or small|large|all [SEED]], judge, packcheck, or listings DIR";
+const USAGE: &str = "answers list or counts [short, or small|large|all [SEED]], judge, packcheck, listings DIR, \
+    long DIR, or random-listings SEED COUNT DIR";
 
 /// Hands on the images that the arguments name: a list, by default the whole fixed one, and its seed.
 fn each(args: &[&str], visit: &mut dyn FnMut(&Image, &Calls)) {
@@ -36,14 +39,29 @@ fn input() -> Vec<u8> {
     bytes
 }
 
-/// Writes the listings into a directory.
-fn write_listings(dir: &Path) {
-    std::fs::create_dir_all(dir).expect("a directory");
-    for (name, text) in listings() {
-        let output = packcheck(text.as_bytes());
-        std::fs::write(dir.join(name.clone() + ".in"), text).expect("a file");
-        std::fs::write(dir.join(name + ".out"), output).expect("a file");
+/// What an output is counted as: its refusal, or its verdict and whether there are diagnostics.
+fn kind(output: &str) -> String {
+    let last = output.lines().last().expect("a line of output");
+    let (answer, figure) = last.rsplit_once(' ').expect("a figure");
+    if answer.starts_with("refused") || figure == "0" {
+        answer.to_string()
+    } else {
+        format!("{answer} with diagnostics")
     }
+}
+
+/// Writes listings and their outputs into a directory, and counts the outputs.
+fn write_listings(dir: &str, listings: Vec<Listing>) -> String {
+    std::fs::create_dir_all(dir).expect("a directory");
+    let mut counts = BTreeMap::new();
+    for (name, input) in listings {
+        let output = packcheck(&input);
+        *counts.entry(kind(&output)).or_insert(0) += 1;
+        let path = |end: &str| Path::new(dir).join(format!("{name}.{end}"));
+        std::fs::write(path("in"), input).expect("a file");
+        std::fs::write(path("out"), output).expect("a file");
+    }
+    counts.into_iter().map(|(kind, count): (String, usize)| format!("{kind}: {count}\n")).collect()
 }
 
 fn main() {
@@ -63,7 +81,12 @@ fn main() {
             read_images(&text).for_each(|image| put(write_record(&image, &calls(&image))));
         }
         ["packcheck"] => put(packcheck(&input())),
-        ["listings", dir] => write_listings(Path::new(dir)),
+        ["listings", dir] => put(write_listings(dir, stored())),
+        ["long", dir] => put(write_listings(dir, long())),
+        ["random-listings", seed, count, dir] => {
+            let (seed, count) = (seed.parse().expect("a seed"), count.parse().expect("a number"));
+            put(write_listings(dir, random(seed, count)));
+        }
         _ => panic!("{USAGE}"),
     }
 }

@@ -183,10 +183,11 @@ fn mutate(rng: &mut Rng, source: &mut Source) {
     }
 }
 
-/// A random row that has code.
-fn row_with_code(rng: &mut Rng, sources: &[Source]) -> usize {
+/// Changes one thing in one of the prototypes that have code.
+pub fn change(rng: &mut Rng, sources: &mut [Source]) {
     let rows: Vec<usize> = (0..sources.len()).filter(|row| !sources[*row].code.is_empty()).collect();
-    rng.pick(&rows)
+    let row = rng.pick(&rows);
+    mutate(rng, &mut sources[row]);
 }
 
 /// A valid image that stays small with one word more.
@@ -209,8 +210,7 @@ pub fn add(list: &mut List) {
         assert!(answer.diagnostics.is_empty(), "a valid image: {:?}", answer.diagnostics);
         for _ in 0..5 {
             let mut changed = sources.clone();
-            let row = row_with_code(&mut list.rng, &sources);
-            mutate(&mut list.rng, &mut changed[row]);
+            change(&mut list.rng, &mut changed);
             list.add("changed", image(&changed));
         }
     }

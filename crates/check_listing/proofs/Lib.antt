@@ -1,0 +1,9 @@
+pub mod ScanLaws
+pub mod NumberLaws
+pub mod DecimalsLaws
+pub mod LinesLaws
+pub mod ReadLaws
+pub mod PrintLaws
+pub mod RecordLaws
+pub mod AnswerLaws
+pub mod OutputLaws

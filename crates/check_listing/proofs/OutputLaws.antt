@@ -2,10 +2,11 @@
 use Prim.Native.Nat.{ℕ, _+_, _*_, _≤_}
 use native.Mathlib.Omega.{arith}
 use native.Mathlib.Nat.{zero-add}
-use mathlib.Core.Path.{_≡_, refl, sym, ap, _∙_, subst⁻¹}
+use mathlib.Core.Path.{_≡_, refl, sym, ap, _∙_}
 use mathlib.Core.List.{List, []}
 use lib.ListN.{length, take}
 use Rattle.opcodes.specs.Bytes.{overwrite}
+use Rattle.opcodes.proofs.ByteLaws.{length-overwrite}
 use Rattle.roles.specs.Calls.{Answer, accepted, refused}
 use Rattle.roles.specs.Refusals.{Refused}
 use Rattle.verdict.specs.Check.{Checked, checkAnswer}
@@ -37,9 +38,11 @@ output-fits (done i) = go (checkAnswer i (8 * maxWords) (16 * maxDiagnostics)) r
         omega arith
 
 -- what was printed is the output, and so it is of every longer input
-pub written : {old new input t : List ℕ} {r : ℕ} → outputText (readListing input) ≡ t → Prints old 0 t new r → (new ≡ overwrite old 0 (packcheck input)) × ((r ≡ length (packcheck input)) × ((r ≤ outputBytes) × ((whole : List ℕ) → take inputBytes whole ≡ input → packcheck whole ≡ packcheck input)))
+pub written : {old new input t : List ℕ} {r : ℕ} → length old ≡ outputBytes → outputText (readListing input) ≡ t → Prints old 0 t new r → (new ≡ overwrite old 0 (packcheck input)) × ((r ≡ length (packcheck input)) × ((r ≤ length new) × ((whole : List ℕ) → take inputBytes whole ≡ input → packcheck whole ≡ packcheck input)))
 unfolding packcheck
-written {input = input} e p =
+written {old} {new} {input} room e p =
+    let whole = p .bytes ∙ ap (overwrite old 0) (sym e) in
     let size = p .ends ∙ zero-add _ ∙ ap length (sym e) in
-    let fits = subst⁻¹ (λ (n : ℕ). n ≤ outputBytes) size (output-fits (readListing input)) in
-    (p .bytes ∙ ap (overwrite _ 0) (sym e), (size, (fits, λ whole front. sym (long-input whole) ∙ ap packcheck front)))
+    let fits = output-fits (readListing input) in
+    let kept = ap length whole ∙ length-overwrite old 0 (packcheck input) in
+    (whole, (size, (omega arith, λ w front. sym (long-input w) ∙ ap packcheck front)))

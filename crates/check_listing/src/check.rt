@@ -24,7 +24,7 @@ ghost use Rattle.validator.specs.Contracts.{imageOf};
 pub fn check_listing(input: &[u8], output: &mut [u8; 106560]) -> usize
     ensures { λ r. ⌜ now (output .exit) ≡ overwrite (now (output .entry)) 0 (packcheck (now (input .entry))) ⌝ }
     ensures { λ r. ⌜ r ≡ length (packcheck (now (input .entry))) ⌝ }
-    ensures { λ r. ⌜ r ≤ outputBytes ⌝ }
+    ensures { λ r. ⌜ r ≤ length (now (output .exit)) ⌝ }
     ensures { λ _. ⌜ ((whole : List ℕ) → take inputBytes whole ≡ now (input .entry) → packcheck whole ≡ packcheck (now (input .entry))) ⌝ }
 {
     let mut protos = [0u8; 1280];
@@ -46,7 +46,8 @@ pub fn check_listing(input: &[u8], output: &mut [u8; 106560]) -> usize
 }
 
 // Refusals 9 and 10.
-fn print_unread(output: &mut [u8; 106560], unread: Unread) -> usize
+fn print_unread(output: &mut [u8], unread: Unread) -> usize
+    requires { ⌜ outputBytes ≤ length (now output) ⌝ }
     ensures { λ r. ⌜ Prints (now (output .entry)) 0 (outputText (refused unread)) (now (output .exit)) r ⌝ }
 {
     match unread {
@@ -56,13 +57,8 @@ fn print_unread(output: &mut [u8; 106560], unread: Unread) -> usize
 }
 
 // The check of an image.
-fn print_check(
-    protos: &[u8],
-    words: &[u8],
-    warnings: u32,
-    errors: u32,
-    output: &mut [u8; 106560],
-) -> usize
+fn print_check(protos: &[u8], words: &[u8], warnings: u32, errors: u32, output: &mut [u8]) -> usize
+    requires { ⌜ outputBytes ≤ length (now output) ⌝ }
     ensures { λ r. ⌜ Prints (now (output .entry)) 0 (outputText (done (imageOf (now (protos .entry)) (now (words .entry)) warnings errors))) (now (output .exit)) r ⌝ }
 {
     let mut roles = [0u8; 16384];

@@ -4,14 +4,14 @@ use mathlib.Core.List.{map, flatMap, flatten}
 use Rattle.opcodes.specs.Bytes.{u32Bytes, u32Record, u32s, u32At}
 use Rattle.opcodes.specs.Lists.{only}
 use Rattle.opcodes.specs.Words.{B, C, is, isConstant, constantIndex}
-use Rattle.roles.specs.Table.{rowAt, rows, below, children, protoOf, protosOf, protos}
-use Rattle.roles.specs.Roles.{bindingCount, hasExtra, claims, rolesFrom, roles, roleAt, wordAt, executableAt, owned, existing, isTruncated, companions, bindingWords}
+use Rattle.chunk.specs.Table.{rowAt, rows, below, children, protoOf, protosOf, protos}
+use Rattle.chunk.specs.Roles.{bindingCount, hasExtra, claims, rolesFrom, roles, roleAt, wordAt, executableAt, owned, existing, isTruncated, companions, bindingWords}
 use Rattle.verdict.specs.Operands.{isUnknown, isBinding, isJump, target, isLoadboolSkip, isSkip, skipTarget, constantBx, upvalueB, flagA, registerA, spanEnds, registerIn, constantIn, childBx, capturedRegister, capturedUpvalue}
 use Rattle.verdict.specs.Diagnostics.{truncationAt, hasLargeStack, stackDiagnostics, opcodeDiagnostics, targetDiagnostics, jumpDiagnostics, skipDiagnostics, notBelow, operandDiagnostics, opcodeValue, bindingDiagnostics, knownDiagnostics, wordDiagnostics, diagnosticsAt, testedStep, untestedStep, protoSteps}
 use Rattle.verdict.specs.Walk.{advance, walkRow, walkFrom, walk, limitReached, hasErrors, verdictOf}
 use Rattle.verdict.specs.Image.{imageProtos, imageWalk, diagnostics, verdict}
-use Rattle.roles.specs.Refusals.{refuse, refuseIf, orElse, depthFits, badDepth, fieldsFit, badField, wordTotal, imageRefusal, rolesRefusal, tooShort}
-use Rattle.roles.specs.Calls.{answer}
+use Rattle.chunk.specs.Refusals.{refuse, refuseIf, orElse, depthFits, badDepth, fieldsFit, badField, wordTotal, imageRefusal, rolesRefusal, tooShort}
+use Rattle.chunk.specs.Calls.{answer}
 use Rattle.verdict.specs.Check.{checked, checkRefusal, checkAnswer}
 use Rattle.listing.specs.Text.{text, same, joinFirst, lines, line, isDigit, isHexDigit, digitValue, valueOf, isDecimal, digits, decimal, integer}
 use Rattle.listing.specs.Listing.{named, separator, consNumber, decimals, hexWord, andThen, refusedAt, readAs, readLine, readRows, readWords, readListing}

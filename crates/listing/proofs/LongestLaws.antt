@@ -9,8 +9,8 @@ use mathlib.Core.Option.{Option, none, some}
 use lib.Dec.{T}
 use lib.ListN.{length, take, drop, length-append}
 use lib.Seq.{drop-drop}
-use Rattle.roles.specs.Table.{rowFields}
-use Rattle.roles.specs.Refusals.{Refused}
+use Rattle.chunk.specs.Table.{rowFields}
+use Rattle.chunk.specs.Refusals.{Refused}
 use Rattle.verdict.specs.Image.{Image}
 use Rattle.listing.specs.Text.{text, same, lines}
 use Rattle.listing.specs.Listing.{decimals, hexWord, Read, stopped, done, andThen, refusedAt, readAs, readLine, readRows, readWords, maxRows, maxWords, readListing}

@@ -8,7 +8,7 @@ use mathlib.Core.Option.{Option, none, some, Option·none-ne-some}
 use lib.Dec.{eqb}
 use lib.ListN.{length, take, drop, length-append}
 use Rattle.opcodes.specs.Lists.{elem}
-use Rattle.roles.specs.Table.{rowFields}
+use Rattle.chunk.specs.Table.{rowFields}
 use Rattle.listing.specs.Text.{text, newline, same, joinFirst, lines}
 use Rattle.listing.specs.Listing.{named, decimals, hexWord, Read, stopped, done, andThen, refusedAt, readAs, readLine, readRows, readWords, maxRows, maxWords, readListing}
 use Rattle.listing.specs.Packcheck.{outputText, packcheck}

@@ -9,8 +9,8 @@ use lib.Dec.{eqb}
 use lib.ListN.{length, getD, take, drop}
 use Rattle.opcodes.specs.Lists.{takeWhile, every}
 use Rattle.opcodes.specs.Bytes.{u32Record}
-use Rattle.roles.specs.Table.{rowFields}
-use Rattle.roles.specs.Refusals.{Refused}
+use Rattle.chunk.specs.Table.{rowFields}
+use Rattle.chunk.specs.Refusals.{Refused}
 use Rattle.verdict.specs.Image.{Image}
 use Rattle.listing.specs.Text.{text, newline, space, same, lines, isDigit, isHexDigit, valueOf, isDecimal}
 

@@ -3,7 +3,7 @@ use Prim.Native.Nat.{ℕ, _+_, _*_}
 use mathlib.Core.Path.{_≡_}
 use mathlib.Core.List.{List}
 use lib.ListN.{take}
-use Rattle.roles.specs.Table.{rowFields}
+use Rattle.chunk.specs.Table.{rowFields}
 use Rattle.listing.specs.Listing.{maxRows, maxWords}
 use Rattle.listing.specs.Packcheck.{packcheck}
 

@@ -4,8 +4,8 @@ use Prim.Native.Nat.{ℕ, _-_, _*_}
 use Prim.Native.String.{String}
 use mathlib.Core.List.{List, [], _∷_, flatMap, flatten}
 use lib.ListN.{getD}
-use Rattle.roles.specs.Refusals.{Refused}
-use Rattle.roles.specs.Calls.{Answer, refused, accepted}
+use Rattle.chunk.specs.Refusals.{Refused}
+use Rattle.chunk.specs.Calls.{Answer, refused, accepted}
 use Rattle.verdict.specs.Walk.{Verdict, ValidForParser, Incomplete, Invalid, RowDiagnostic}
 use Rattle.verdict.specs.Image.{Image, diagnostics}
 use Rattle.verdict.specs.Check.{Checked, checkAnswer}

@@ -9,7 +9,7 @@ use validator::calls::validate_chunk_lua51;
 ghost use mathlib.Core.Path.{_≡_};
 ghost use lib.ListN.{length};
 ghost use Rattle.luad51.specs.Results.{Guaranteed, ReadAs, Reads, ReadsCheck, checkResult, countResult, packed, refusedResult, verdictNumber};
-ghost use Rattle.roles.specs.Calls.{bindingsAfter, bindingsAnswer, rolesAfter, rolesAnswer};
+ghost use Rattle.chunk.specs.Calls.{bindingsAfter, bindingsAnswer, rolesAfter, rolesAnswer};
 ghost use Rattle.roles.specs.Contracts.{answerOf, refusedOf};
 ghost use Rattle.validator.specs.Contracts.{answerOf as validationOf, imageOf, verdictIn};
 ghost use Rattle.verdict.specs.Check.{checkAnswer, diagnosticsAfter};

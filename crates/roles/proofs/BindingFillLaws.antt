@@ -3,93 +3,26 @@ use Prim.Native.Nat.{ℕ, zero, suc, _+_, _*_, _/_, _≤_, _<_}
 use native.Mathlib.Numerals.{add-one}
 use native.Mathlib.Omega.{arith}
 use mathlib.Core.Path.{_≡_, refl, sym, _∙_, ap, ap₂, subst⁻¹}
-use mathlib.Core.List.{List, [], _∷_, _++_, foldl, append-assoc}
+use mathlib.Core.List.{List, [], _∷_, foldl}
 use mathlib.Core.Option.{Option, none, some}
-use lib.ListN.{length, getD, take, drop, set, replicate, take-append-drop, length-set, length-replicate}
-use lib.Seq.{set-split, drop-drop, drop-cons, length-take-le}
-use Rattle.opcodes.specs.Lists.{All, all-nil, all-cons, upFrom}
+use lib.ListN.{length, take, drop, replicate, length-replicate}
+use lib.Seq.{drop-drop}
+use Rattle.opcodes.specs.Lists.{All, all-nil, all-cons}
 use Rattle.opcodes.specs.Bytes.{overwrite}
-use Rattle.opcodes.specs.Words.{is, fieldBx, CLOSURE}
-use Rattle.roles.specs.Table.{Row, rowBytes, fieldAt, rowAt, rows, Proto, protoOf}
-use Rattle.roles.specs.Roles.{wordAt, executableAt, bindingCount, existing, bindingWords}
-use Rattle.roles.specs.Bindings.{Binding, unbound, Write, bindingOf, writeOf, writesAt, writes, firstBinding, bindingTotal, setBinding, bindRows, bindings, bindingBytes, bindingRecords}
-use Rattle.roles.specs.Refusals.{rolesRefusal, wordTotal}
+use Rattle.chunk.specs.Table.{Row, rowBytes, fieldAt, rowAt, rows, Proto, protoOf}
+use Rattle.chunk.specs.Bindings.{Binding, unbound, Write, writes, firstBinding, bindingTotal, setBinding, bindRows, bindings, bindingBytes, bindingRecords}
+use Rattle.chunk.specs.Refusals.{rolesRefusal, wordTotal}
 use Rattle.roles.specs.Contracts.{childOfRow, protoIn}
 use Rattle.roles.specs.BindingSteps.{maxBindings, RoomForAllOrNone, BindsFrom, stored, boundIn, boundRow, boundRows}
 use Rattle.opcodes.proofs.ListLaws.{foldl-next}
-use Rattle.opcodes.proofs.AllLaws.{all-flatMap, all-map, all-of, all-imp, all-upTo}
-use Rattle.opcodes.proofs.TestLaws.{by-cond}
-use Rattle.opcodes.proofs.ByteLaws.{overwrite-front, overwrite-whole}
-use Rattle.opcodes.proofs.PartLaws.{paste-part}
-use Rattle.roles.proofs.TableLaws.{drop-rows}
-use Rattle.roles.proofs.TotalLaws.{words-next, records-next, records-most}
-use Rattle.roles.proofs.RowCheckLaws.{rows-end}
-use Rattle.roles.proofs.RefusalLaws.{roles-kept}
-use Rattle.roles.proofs.BindingRecordLaws.{length-bindings, bindings-append}
+use Rattle.opcodes.proofs.AllLaws.{all-imp}
+use Rattle.chunk.proofs.TableLaws.{drop-rows}
+use Rattle.chunk.proofs.TotalLaws.{words-next, records-next, records-most}
+use Rattle.chunk.proofs.RowCheckLaws.{rows-end}
+use Rattle.chunk.proofs.RefusalLaws.{roles-kept}
+use Rattle.chunk.proofs.BindingRecordLaws.{record-set}
+use Rattle.chunk.proofs.WriteLaws.{length-setBinding, length-writes, Inside, writes-inside}
 use Rattle.roles.proofs.BindingPassLaws.{child-records, length-boundIn}
-
--- ---- one record among others
-
-record-set : (old : List ℕ) (bs : List Binding) (i : ℕ) (b : Binding) → i < length bs → bindingBytes * length bs ≤ length old
-    → overwrite (overwrite old 0 (bindingRecords bs)) (bindingBytes * i) (bindingRecords (b ∷ [])) ≡ overwrite old 0 (bindingRecords (set bs i b))
-record-set old bs i b h room =
-    let before = take i bs in
-    let here = getD bs i b in
-    let after = drop (suc i) bs in
-    let new = bindingRecords (b ∷ []) in
-    let rest = drop (length (bindingRecords bs)) old in
-    let split : bs ≡ before ++ (here ∷ after) = sym (ap (λ (l : List Binding). before ++ l) (sym (drop-cons bs i b h)) ∙ take-append-drop i bs) in
-    let pieces : (x : Binding) → bindingRecords (before ++ (x ∷ after)) ≡ bindingRecords before ++ (bindingRecords (x ∷ []) ++ bindingRecords after) =
-    λ x. bindings-append before (x ∷ after) ∙ ap (λ (l : List ℕ). bindingRecords before ++ l) (bindings-append (x ∷ []) after) in
-    let at : bindingBytes * i ≡ length (bindingRecords before) + 0 = omega (arith, length-bindings before, length-take-le i bs (omega arith)) in
-    let same = overwrite-whole (bindingRecords (here ∷ [])) new (omega (arith, length-bindings (here ∷ []), length-bindings (b ∷ []))) in
-    let size : length (bindingRecords (set bs i b)) ≡ length (bindingRecords bs) = length-bindings (set bs i b) ∙ ap (λ (n : ℕ). bindingBytes * n) (length-set bs i b) ∙ sym (length-bindings bs) in
-    ap (λ (l : List ℕ). overwrite l (bindingBytes * i) new)
-    (overwrite-front old (bindingRecords bs) (omega (arith, length-bindings bs))
-    ∙ ap (λ (l : List ℕ). l ++ rest) (ap bindingRecords split ∙ pieces here)
-    ∙ append-assoc (bindingRecords before) (bindingRecords (here ∷ []) ++ bindingRecords after) rest
-    ∙ ap (λ (l : List ℕ). bindingRecords before ++ l) (append-assoc (bindingRecords (here ∷ [])) (bindingRecords after) rest))
-    ∙ ap (λ (n : ℕ). overwrite (bindingRecords before ++ (bindingRecords (here ∷ []) ++ (bindingRecords after ++ rest))) n new) at
-    ∙ sym (paste-part (bindingRecords before) (bindingRecords (here ∷ [])) (bindingRecords after ++ rest) 0 new (omega (arith, length-bindings (here ∷ []), length-bindings (b ∷ []))))
-    ∙ ap (λ (l : List ℕ). bindingRecords before ++ (l ++ (bindingRecords after ++ rest))) same
-    ∙ sym (overwrite-front old (bindingRecords (set bs i b)) (omega (arith, size, length-bindings bs))
-    ∙ ap₂ (λ (l : List ℕ) (n : ℕ). l ++ drop n old) (ap bindingRecords (set-split bs i b h) ∙ pieces b) size
-    ∙ append-assoc (bindingRecords before) (new ++ bindingRecords after) rest
-    ∙ ap (λ (l : List ℕ). bindingRecords before ++ l) (append-assoc new (bindingRecords after) rest))
-
--- ---- a write changes no length
-
-length-setBinding : (all : List Row) (o : Option Row) (v : Write) (bs : List Binding) → length (setBinding all o v bs) ≡ length bs
-unfolding setBinding
-length-setBinding all none v bs = refl
-length-setBinding all (some c) v bs = length-set bs _ (v .binding)
-
-pub length-writes : (all : List Row) (f : Write → Option Row) (vs : List Write) (bs : List Binding) → length (foldl (λ (bs : List Binding) (v : Write). setBinding all (f v) v bs) bs vs) ≡ length bs
-length-writes all f [] bs = refl
-length-writes all f (v ∷ vs) bs = length-writes all f vs (setBinding all (f v) v bs) ∙ length-setBinding all (f v) v bs
-
--- ---- the writes of a prototype are to the records of its children
-
-abbrev Inside : Proto → Write → Type 0
-Inside p v = v .upvalue < getD (p .children) (v .child) 0
-
-binding-words-most : (p : Proto) (pc : ℕ) → bindingWords p pc ≤ getD (p .children) (fieldBx (wordAt p pc)) 0
-unfolding bindingWords existing bindingCount
-binding-words-most p pc =
-    let w = wordAt p pc in
-    let n = getD (p .children) (fieldBx w) 0 in
-    let owned : bindingCount p w ≤ n = by-cond (λ (k : ℕ). k ≤ n) (is w (CLOSURE ∷ [])) n 0 (λ _. omega arith) (λ _. omega arith) in
-    by-cond (λ (k : ℕ). k ≤ n) (executableAt p pc) (existing p pc (bindingCount p w)) 0 (λ _. omega arith) (λ _. omega arith)
-
-writes-inside : (p : Proto) → All (Inside p) (writes p)
-unfolding writes writesAt writeOf
-writes-inside p =
-    all-flatMap (Inside p) (writesAt p)
-    (all-of (λ pc.
-    all-flatMap (Inside p) (λ j. writeOf (fieldBx (wordAt p pc)) j (pc + 1 + j) (wordAt p (pc + 1 + j)))
-    (all-upTo (λ j. All (Inside p) (writeOf (fieldBx (wordAt p pc)) j (pc + 1 + j) (wordAt p (pc + 1 + j)))) (bindingWords p pc) (λ j h.
-    all-map (Inside p) (λ b. record { child = fieldBx (wordAt p pc); upvalue = j; binding = b }) (all-of (λ b. omega (arith, binding-words-most p pc)) (bindingOf (pc + 1 + j) (wordAt p (pc + 1 + j)))))))
-    (upFrom 0 (length (p .code))))
 
 -- ---- in a buffer and in the list of bindings
 

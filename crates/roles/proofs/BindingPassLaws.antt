@@ -1,32 +1,32 @@
 -- The bindings that a pass over a prototype's words makes: what is bound after each executable word and its companions. Assumes nothing.
 use Prim.Native.Nat.{ℕ, suc, _+_, _-_, _*_, _/_, _≤_, _<_, min}
-use native.Mathlib.Nat.{zero-add}
 use native.Mathlib.Omega.{arith}
 use mathlib.Core.Path.{_≡_, refl, sym, _∙_, ap, ap₂, subst}
 use mathlib.Core.Logic.{_⊎_, inl, inr}
 use mathlib.Core.Bool.{Bool, true, false}
-use mathlib.Core.List.{List, [], _∷_, _++_, flatMap, foldl-append, foldl-map, append-nil}
+use mathlib.Core.List.{List, [], _∷_, _++_, flatMap, foldl-append, foldl-map}
 use mathlib.Core.Option.{Option, none, some}
 use lib.ListN.{length, getD, drop, length-take}
 use Rattle.opcodes.specs.Lists.{upFrom, tabulate}
 use Rattle.opcodes.specs.Bytes.{u32s}
 use Rattle.opcodes.specs.Words.{is, fieldBx, CLOSURE}
-use Rattle.roles.specs.Table.{Row, rowBytes, rowAt, rows, Proto, protoOf}
-use Rattle.roles.specs.Roles.{ClosureBinding, hasExtra, wordAt, executableAt, Executable, bindingCount, existing, companions, bindingWords}
-use Rattle.roles.specs.Bindings.{Write, bindingOf, writeOf, writesAt, writes, firstBinding, bindingTotal, bindingBytes}
+use Rattle.chunk.specs.Table.{Row, rowBytes, rowAt, rows, Proto, protoOf}
+use Rattle.chunk.specs.Roles.{ClosureBinding, hasExtra, wordAt, executableAt, bindingCount, existing, bindingWords}
+use Rattle.chunk.specs.Bindings.{Write, bindingOf, writeOf, writesAt, writes, firstBinding, bindingTotal, bindingBytes}
 use Rattle.roles.specs.Contracts.{recordsBetween, childOfRow, protoIn, recordsBefore, childBindings, companionsOf, claimedRoles}
 use Rattle.roles.specs.BindingSteps.{boundBy, boundFrom, boundClaim, RoomForAllOrNone, BindsFrom, Bindable, stored, boundIn}
 use Rattle.roles.specs.declared.discovery.Companions.{Companions}
 use Rattle.roles.specs.declared.discovery.Companions.the-variants.{None, Bindings, Extra}
-use Rattle.opcodes.proofs.ListLaws.{upFrom-append, flatMap-append, foldl-flatMap, foldl-same, length-tabulate}
-use Rattle.opcodes.proofs.AllLaws.{flatMap-none, all-upFrom}
+use Rattle.opcodes.proofs.ListLaws.{foldl-flatMap, foldl-same, length-tabulate}
 use Rattle.opcodes.proofs.TestLaws.{T-true}
 use Rattle.opcodes.proofs.ByteLaws.{length-u32s, length-overwrite}
-use Rattle.roles.proofs.TableLaws.{child-upvalues}
-use Rattle.roles.proofs.TotalLaws.{records-front, records-next, between-first}
-use Rattle.roles.proofs.SearchLaws.{found, no-upvalues}
-use Rattle.roles.proofs.RoleLaws.{companion-unexecutable}
-use Rattle.roles.proofs.RoleRecordLaws.{existingRoles}
+use Rattle.chunk.proofs.TableLaws.{child-upvalues}
+use Rattle.chunk.proofs.TotalLaws.{records-front, records-next}
+use Rattle.chunk.proofs.ChildLaws.{found}
+use Rattle.chunk.proofs.WriteLaws.{writes-next}
+use Rattle.roles.proofs.CountLaws.{between-first}
+use Rattle.roles.proofs.SearchLaws.{no-upvalues}
+use Rattle.roles.proofs.MarkLaws.{existingRoles}
 use Rattle.roles.proofs.RolePassLaws.{OwnerHere, OwnerStep}
 
 -- ---- the records of a child
@@ -91,25 +91,6 @@ module _ (table : List ℕ) (row : ℕ) (code : List ℕ) where
   pub bind-begins : (old : List ℕ) → BindPass table row code old old 0
   unfolding boundIn flatMap
   bind-begins old = record { bound = refl; long = refl }
-
-  -- companions make no writes
-  none-written : (pc k : ℕ) → Executable p pc → k ≡ companions p pc → flatMap (writesAt p) (upFrom (suc pc) k) ≡ []
-  unfolding writesAt bindingWords flatMap
-  none-written pc k x e =
-      flatMap-none (writesAt p) (all-upFrom (suc pc) k (λ j h.
-      let at : suc pc + j ≡ pc + 1 + j = omega arith in
-      let no : executableAt p (suc pc + j) ≡ false = ap (executableAt p) at ∙ companion-unexecutable p pc j x (omega arith) in
-      rw no))
-
-  writes-next : (pc k : ℕ) → Executable p pc → k ≡ companions p pc → flatMap (writesAt p) (upFrom 0 (pc + (1 + k))) ≡ flatMap (writesAt p) (upFrom 0 pc) ++ writesAt p pc
-  unfolding flatMap
-  writes-next pc k x e =
-      let one : 1 + k ≡ suc k = omega arith in
-      ap (λ (n : ℕ). flatMap (writesAt p) (upFrom 0 (pc + n))) one
-      ∙ ap (flatMap (writesAt p)) (upFrom-append 0 pc (suc k) ∙ ap (λ (n : ℕ). upFrom 0 pc ++ upFrom n (suc k)) (zero-add pc))
-      ∙ flatMap-append (writesAt p) (upFrom 0 pc) (pc ∷ upFrom (suc pc) k)
-      ∙ ap (λ (l : List Write). flatMap (writesAt p) (upFrom 0 pc) ++ (writesAt p pc ++ l)) (none-written pc k x e)
-      ∙ ap (λ (l : List Write). flatMap (writesAt p) (upFrom 0 pc) ++ l) (append-nil (writesAt p pc))
 
   -- an executable word, and the companions that exist
   module _ (code-of : p .code ≡ u32s code) (base room : ℕ) (binds-from : BindsFrom table row base room)
@@ -245,7 +226,7 @@ module _ (table : List ℕ) (row : ℕ) (code : List ℕ) where
         ∙ sym (word-bound-here out)
         ∙ ap (boundIn table row (writesAt p pc)) (v .bound)
         ∙ sym (bound-append table row vs (writesAt p pc) old)
-        ∙ ap (λ (us : List Write). boundIn table row us old) (sym (writes-next pc k (o .executes) (o .count))) in
+        ∙ ap (λ (us : List Write). boundIn table row us old) (sym (writes-next p pc k (o .executes) (o .count))) in
         record { bound = all; long = ap length all ∙ length-boundIn table row _ old }
 
   pub bind-ends : (code-of : p .code ≡ u32s code) (old out : List ℕ) (pc : ℕ) → BindPass table row code old out pc → pc ≡ length code / 4 → out ≡ boundIn table row (writes p) old

@@ -7,10 +7,10 @@ use mathlib.Core.Option.{Option, none}
 use lib.ListN.{length, drop, replicate, length-replicate}
 use borrow.Author.Tests.{lt-ltb, le-ltb}
 use Rattle.opcodes.specs.Bytes.{u32s, overwrite}
-use Rattle.roles.specs.Table.{Row, rowBytes, rows, protoOf, childAt}
-use Rattle.roles.specs.Bindings.{Binding, unbound, writes, bindingTotal, bindRows, bindings, bindingBytes, bindingRecords}
-use Rattle.roles.specs.Refusals.{Refused, refuse, refuseIf, orElse, rolesRefusal, tooShort}
-use Rattle.roles.specs.Calls.{answer, filled, rolesAfter, imageBindings, bindingsRefusal, bindingsAnswer, bindingsAfter}
+use Rattle.chunk.specs.Table.{Row, rowBytes, rows, protoOf, childAt}
+use Rattle.chunk.specs.Bindings.{Binding, unbound, writes, bindingTotal, bindRows, bindings, bindingBytes, bindingRecords}
+use Rattle.chunk.specs.Refusals.{Refused, refuse, refuseIf, orElse, rolesRefusal, tooShort}
+use Rattle.chunk.specs.Calls.{answer, filled, rolesAfter, imageBindings, bindingsRefusal, bindingsAnswer, bindingsAfter}
 use Rattle.roles.specs.Contracts.{refusedOf, givenRefusal, answerOf, fieldTotal}
 use Rattle.roles.specs.BindingSteps.{maxBindings, boundRows}
 use Rattle.roles.specs.declared.refusals.Refusal.{Refusal}
@@ -18,10 +18,11 @@ use Rattle.roles.specs.declared.refusals.Refusal.the-variants as refusal
 use Rattle.roles.specs.declared.refusals.Acceptance.{Acceptance}
 use Rattle.roles.specs.declared.refusals.Acceptance.the-variants as acceptance
 use Rattle.roles.specs.declared.calls.Answer.the-variants as answered
-use Rattle.roles.proofs.TotalLaws.{record-fields}
-use Rattle.roles.proofs.UntouchedLaws.{refused-leaves, bindings-untouched}
+use Rattle.chunk.proofs.UntouchedLaws.{refused-leaves, bindings-untouched}
+use Rattle.chunk.proofs.WriteLaws.{length-writes}
+use Rattle.roles.proofs.CountLaws.{record-fields}
 use Rattle.roles.proofs.RolesCallLaws.{refused-by, not-refused, refused-call as refused-roles}
-use Rattle.roles.proofs.BindingFillLaws.{length-writes, few-records, rows-bound}
+use Rattle.roles.proofs.BindingFillLaws.{few-records, rows-bound}
 
 -- ---- there is a record for each upvalue
 

@@ -8,16 +8,16 @@ use mathlib.Core.Option.{Option, none}
 use lib.Dec.{eqb, ltb}
 use lib.ListN.{length}
 use borrow.Author.Tests.{eq-eqb, ne-eqb, lt-ltb, le-ltb, ltb-false}
-use Rattle.roles.specs.Table.{rowBytes, rows}
-use Rattle.roles.specs.Refusals.{Refused, refuse, refuseIf, orElse, badDepth, badField, wordTotal, imageRefusal, rolesRefusal}
+use Rattle.chunk.specs.Table.{rowBytes, rows}
+use Rattle.chunk.specs.Refusals.{Refused, refuse, refuseIf, orElse, badDepth, badField, wordTotal, imageRefusal, rolesRefusal}
 use Rattle.roles.specs.Contracts.{fieldTotal, givenRefusal}
 use Rattle.roles.specs.declared.refusals.Refusal.{Refusal}
 use Rattle.roles.specs.declared.refusals.Acceptance.{Acceptance}
 use Rattle.roles.specs.declared.refusals.Acceptance.the-variants as acceptance
 use Rattle.opcodes.proofs.TestLaws.{or-false}
-use Rattle.roles.proofs.TableLaws.{length-rows}
-use Rattle.roles.proofs.RefusalLaws.{image-kept}
-use Rattle.roles.proofs.TotalLaws.{word-fields}
+use Rattle.chunk.proofs.TableLaws.{length-rows}
+use Rattle.chunk.proofs.RefusalLaws.{image-kept}
+use Rattle.roles.proofs.CountLaws.{word-fields}
 
 -- a check that refuses decides; one that accepts leaves it to those after it
 pub refuses : (a : Acceptance) (r : Refusal) (o p : Option Refused) → a ≡ acceptance.Refused r → givenRefusal a ≡ o → givenRefusal (acceptance.Refused r) ≡ orElse o p

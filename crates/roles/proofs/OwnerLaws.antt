@@ -7,7 +7,7 @@ use lib.Dec.{eqb}
 use borrow.Author.Tests.{eq-eqb, ne-eqb}
 use Rattle.opcodes.specs.Words.{decoded, is, opcode, CLOSURE, SETLIST}
 use Rattle.opcodes.specs.declared.RawInstruction51.{RawInstruction51}
-use Rattle.roles.specs.Roles.{hasExtra}
+use Rattle.chunk.specs.Roles.{hasExtra}
 use Rattle.roles.specs.Contracts.{childBindings, companionsOf}
 use Rattle.roles.specs.declared.discovery.Companions.the-variants.{None, Extra}
 

@@ -1,5 +1,5 @@
 -- The roles of all prototypes, one after the other: what was written, and what is left, after each row. Assumes nothing.
-use Prim.Native.Nat.{ℕ, zero, suc, _+_, _-_, _*_, _/_, _≤_, _<_}
+use Prim.Native.Nat.{ℕ, suc, _+_, _-_, _*_, _/_, _≤_, _<_}
 use native.Mathlib.Nat.{add-zero}
 use native.Mathlib.Numerals.{add-one}
 use native.Mathlib.Omega.{arith}
@@ -7,30 +7,22 @@ use mathlib.Core.Path.{_≡_, refl, sym, _∙_, ap, ap₂}
 use mathlib.Core.List.{List, [], _∷_, _++_, append-nil, flatMap}
 use mathlib.Core.Option.{Option, none}
 use lib.ListN.{length, take, drop, length-take, length-drop}
-use lib.Seq.{take-all, take-take, drop-drop, length-take-le}
+use lib.Seq.{take-all, take-take, length-take-le}
 use Rattle.opcodes.specs.Bytes.{u32s, overwrite}
-use Rattle.roles.specs.Table.{Row, rowBytes, fieldAt, rowAt, rows, Proto, protoOf, protosOf, protos}
-use Rattle.roles.specs.Roles.{Role, roles, roleBytes, recordsOf}
-use Rattle.roles.specs.Refusals.{Refused, wordTotal, rolesRefusal}
-use Rattle.roles.specs.Calls.{filled, rolesAfter}
+use Rattle.chunk.specs.Table.{Row, rowBytes, fieldAt, rowAt, rows, Proto, protoOf, protosOf, protos}
+use Rattle.chunk.specs.Roles.{Role, roles, roleBytes, recordsOf}
+use Rattle.chunk.specs.Refusals.{Refused, wordTotal, rolesRefusal}
+use Rattle.chunk.specs.Calls.{filled, rolesAfter}
 use Rattle.roles.specs.Contracts.{protoIn}
 use Rattle.opcodes.proofs.ListLaws.{flatMap-append}
 use Rattle.opcodes.proofs.ByteLaws.{length-u32s, length-overwrite}
 use Rattle.opcodes.proofs.PartLaws.{u32s-part, paste}
-use Rattle.roles.proofs.TableLaws.{length-rows, drop-rows, length-protosOf}
-use Rattle.roles.proofs.TotalLaws.{words-front, words-next}
-use Rattle.roles.proofs.RefusalLaws.{ImageKept, roles-kept}
-use Rattle.roles.proofs.RoleBufferLaws.{length-roles, wordsBefore, words-before}
-use Rattle.roles.proofs.RoleRecordLaws.{length-records, records-none, records-next}
+use Rattle.chunk.proofs.TableLaws.{length-rows, drop-rows, length-protosOf}
+use Rattle.chunk.proofs.TotalLaws.{words-front, words-next, protos-drop}
+use Rattle.chunk.proofs.RefusalLaws.{ImageKept, roles-kept}
+use Rattle.chunk.proofs.RoleBufferLaws.{length-roles, wordsBefore, words-before}
+use Rattle.chunk.proofs.RoleRecordLaws.{length-records, records-none, records-next}
 use Rattle.roles.proofs.RolePassLaws.{take-front}
-
--- ---- the prototypes from one on
-
-pub protos-drop : (rs : List Row) (ws : List ℕ) (k : ℕ) → drop k (protosOf rs ws) ≡ protosOf (drop k rs) (drop (wordTotal (take k rs)) ws)
-unfolding protosOf wordTotal
-protos-drop rs ws zero = refl
-protos-drop [] ws (suc k) = refl
-protos-drop (r ∷ rs) ws (suc k) = protos-drop rs (drop (r .words) ws) k ∙ ap (protosOf (drop k rs)) (drop-drop (wordTotal (take k rs)) (r .words) ws)
 
 -- a prototype has no more roles than its row states words
 roles-most : (table : List ℕ) (row : ℕ) (ws : List ℕ) → length (roles (protoIn table row ws)) ≤ rowAt table row .words

@@ -1,26 +1,26 @@
 -- The pass over a prototype's words: what it has written, and what is left, after each executable word and its companions. Assumes nothing.
 use Prim.Native.Nat.{ℕ, suc, _+_, _-_, _*_, _/_, _≤_, _<_}
-use native.Mathlib.Nat.{add-zero, add-suc, suc-add}
+use native.Mathlib.Nat.{add-zero}
 use native.Mathlib.Omega.{arith}
-use mathlib.Core.Path.{_≡_, refl, sym, _∙_, ap, ap₂, subst, subst⁻¹}
+use mathlib.Core.Path.{_≡_, refl, sym, _∙_, ap, ap₂, subst⁻¹}
 use mathlib.Core.Bool.{Bool, true, false}
 use mathlib.Core.List.{List, [], _∷_, _++_, append-nil}
 use lib.Dec.{T}
 use lib.ListN.{length, getD, take, drop, length-take, length-drop}
-use lib.Seq.{take-nil, take-all, take-at, take-add, drop-at, drop-drop, drop-cons, getD-drop, length-take-le}
+use lib.Seq.{take-all, take-at, take-add, drop-at, drop-drop, drop-cons, getD-drop, length-take-le}
 use Rattle.opcodes.specs.Lists.{only}
 use Rattle.opcodes.specs.Bytes.{u32At, u32s, overwrite}
-use Rattle.opcodes.specs.Words.{is, CLOSURE, SETLIST}
-use Rattle.roles.specs.Table.{rowAt, Proto, protoOf}
-use Rattle.roles.specs.Roles.{Role, Instruction, bindingCount, hasExtra, claims, rolesFrom, roles, roleAt, wordAt, Executable, existing, companions, roleBytes, recordsOf}
+use Rattle.opcodes.specs.Words.{is, CLOSURE}
+use Rattle.chunk.specs.Table.{rowAt, Proto, protoOf}
+use Rattle.chunk.specs.Roles.{Role, Instruction, bindingCount, hasExtra, claims, rolesFrom, roles, roleAt, wordAt, Executable, existing, companions, roleBytes, recordsOf}
 use Rattle.roles.specs.Contracts.{Tracks, protoIn, childBindings, companionsOf, claimedRoles}
 use Rattle.roles.specs.declared.search.Cursor.{Cursor}
 use Rattle.roles.specs.declared.discovery.Companions.{Companions}
 use Rattle.opcodes.proofs.ByteLaws.{length-u32s, getD-u32s, length-overwrite}
-use Rattle.opcodes.proofs.TestLaws.{T-and, is-not}
-use Rattle.roles.proofs.RoleLaws.{role-executable, executable, owned-count}
-use Rattle.roles.proofs.RoleBufferLaws.{length-roles}
-use Rattle.roles.proofs.RoleRecordLaws.{records-none, records-next, Marked, existingRoles, owner-marked}
+use Rattle.chunk.proofs.RoleLaws.{role-executable, executable, owned-count, past-claims, no-both}
+use Rattle.chunk.proofs.RoleBufferLaws.{length-roles}
+use Rattle.chunk.proofs.RoleRecordLaws.{records-none, records-next}
+use Rattle.roles.proofs.MarkLaws.{Marked, existingRoles, owner-marked}
 
 -- ---- a list from index k on, by its front
 
@@ -32,18 +32,6 @@ module _ {A : Type 0} (l : List A) (k : ℕ) (xs ys : List A) (e : drop k l ≡ 
   take-front = take-add k (length xs) l ∙ ap (λ (t : List A). take k l ++ t) (ap (take (length xs)) e ∙ take-at xs ys (length xs) refl)
 
 -- ---- claimed words
-
--- as many as exist take their roles, and the word after them is looked at next
-past-claims : (p : Proto) (pc : ℕ) (cl : List Role) (ws : List ℕ) → let mine = take (length ws) cl in rolesFrom p pc cl ws ≡ mine ++ rolesFrom p (pc + length mine) [] (drop (length mine) ws)
-unfolding rolesFrom
-past-claims p pc [] ws = rw (take-nil, add-zero)
-past-claims p pc (r ∷ cl) [] = refl
-past-claims p pc (r ∷ cl) (w ∷ ws) = ap (λ (l : List Role). r ∷ l) (past-claims p (suc pc) cl ws ∙ rw (suc-add, add-suc))
-
--- a SETLIST is no CLOSURE
-no-both : {X : Type 0} (w : ℕ) → T (hasExtra w) → T (is w (CLOSURE ∷ [])) → X
-unfolding hasExtra
-no-both w x c = absurd (subst T (is-not w (SETLIST ∷ []) (CLOSURE ∷ []) tt (T-and (is w (SETLIST ∷ [])) _ x .0)) c)
 
 -- what a word claims is what the code takes its companions to be
 claims-claimed : (table : List ℕ) (row pc w : ℕ) (ws : List ℕ) → claimedRoles pc (companionsOf table row w) ≡ claims (protoIn table row ws) pc w

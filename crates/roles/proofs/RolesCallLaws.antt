@@ -5,17 +5,17 @@ use mathlib.Core.Path.{_≡_, sym, _∙_, ap}
 use mathlib.Core.List.{List}
 use mathlib.Core.Option.{Option, none, some}
 use lib.ListN.{length}
-use Rattle.roles.specs.Table.{rowBytes, rows}
-use Rattle.roles.specs.Refusals.{Refused, maxRows, wordTotal, rolesRefusal}
-use Rattle.roles.specs.Calls.{answer, rolesAnswer, rolesAfter}
+use Rattle.chunk.specs.Table.{rowBytes, rows}
+use Rattle.chunk.specs.Refusals.{Refused, maxRows, wordTotal, rolesRefusal}
+use Rattle.chunk.specs.Calls.{answer, rolesAnswer, rolesAfter}
 use Rattle.roles.specs.Contracts.{refusedOf, givenRefusal, answerOf}
 use Rattle.roles.specs.declared.refusals.Refusal.{Refusal}
 use Rattle.roles.specs.declared.refusals.Acceptance.{Acceptance}
 use Rattle.roles.specs.declared.refusals.Acceptance.the-variants as acceptance
 use Rattle.roles.specs.declared.calls.Answer.the-variants as answered
-use Rattle.roles.proofs.TableLaws.{length-rows}
-use Rattle.roles.proofs.RefusalLaws.{ImageKept, roles-kept}
-use Rattle.roles.proofs.UntouchedLaws.{roles-untouched}
+use Rattle.chunk.proofs.TableLaws.{length-rows}
+use Rattle.chunk.proofs.RefusalLaws.{ImageKept, roles-kept}
+use Rattle.chunk.proofs.UntouchedLaws.{roles-untouched}
 
 module _ (table words roleBuffer : List ℕ) (a : Acceptance) (judged : givenRefusal a ≡ rolesRefusal table words (length roleBuffer)) where
   pub refused-by : (r : Refusal) → a ≡ acceptance.Refused r → some (refusedOf r) ≡ rolesRefusal table words (length roleBuffer)

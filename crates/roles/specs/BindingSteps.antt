@@ -8,9 +8,9 @@ use mathlib.Core.Option.{Option, none, some}
 use lib.ListN.{getD, take, drop}
 use Rattle.opcodes.specs.Lists.{upFrom}
 use Rattle.opcodes.specs.Bytes.{overwrite}
-use Rattle.roles.specs.Table.{Row, rows}
-use Rattle.roles.specs.Bindings.{Binding, Write, bindingOf, writes, firstBinding, bindingTotal, bindingBytes, bindingRecords}
-use Rattle.roles.specs.Refusals.{wordTotal}
+use Rattle.chunk.specs.Table.{Row, rows}
+use Rattle.chunk.specs.Bindings.{Binding, Write, bindingOf, writes, firstBinding, bindingTotal, bindingBytes, bindingRecords}
+use Rattle.chunk.specs.Refusals.{wordTotal}
 use Rattle.roles.specs.Contracts.{childOfRow, protoIn}
 use Rattle.roles.specs.declared.discovery.Companions.{Companions}
 use Rattle.roles.specs.declared.discovery.Companions.the-variants.{None, Bindings, Extra}

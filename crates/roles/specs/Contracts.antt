@@ -10,11 +10,11 @@ use lib.IntN.{pos}
 use Rattle.opcodes.specs.Bytes.{u32At, i32Bits}
 use Rattle.opcodes.specs.Lists.{tabulate, total}
 use Rattle.opcodes.specs.Words.{is, fieldBx, CLOSURE}
-use Rattle.roles.specs.Table.{Row, rowBytes, fieldAt, rowAt, rows, children, childAt, Proto, protoOf}
-use Rattle.roles.specs.Roles.{Role, Instruction, ClosureBinding, SetlistExtra, hasExtra, roleFields, roleBytes}
-use Rattle.roles.specs.Bindings.{bindingTotal}
-use Rattle.roles.specs.Refusals.{Refused}
-use Rattle.roles.specs.Calls.{Answer, refused, accepted}
+use Rattle.chunk.specs.Table.{Row, rowBytes, fieldAt, rowAt, rows, children, childAt, Proto, protoOf}
+use Rattle.chunk.specs.Roles.{Role, Instruction, ClosureBinding, SetlistExtra, hasExtra, roleFields, roleBytes}
+use Rattle.chunk.specs.Bindings.{bindingTotal}
+use Rattle.chunk.specs.Refusals.{Refused}
+use Rattle.chunk.specs.Calls.{Answer, refused, accepted}
 use Rattle.roles.specs.declared.refusals.Refusal.{Refusal}
 use Rattle.roles.specs.declared.refusals.Refusal.the-variants as refusal
 use Rattle.roles.specs.declared.refusals.Acceptance.{Acceptance}

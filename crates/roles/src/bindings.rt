@@ -9,9 +9,9 @@ ghost use Prim.Native.Nat.{_+_, _*_, _/_, _%_, _<_, _≤_};
 ghost use mathlib.Core.List.{[], _∷_};
 ghost use lib.ListN.{length, replicate};
 ghost use Rattle.opcodes.specs.Bytes.{overwrite, u32Record, u32s};
-ghost use Rattle.roles.specs.Bindings.{bindingBytes, bindingRecords, unbound};
+ghost use Rattle.chunk.specs.Bindings.{bindingBytes, bindingRecords, unbound};
+ghost use Rattle.chunk.specs.Refusals.{maxWordBytes};
 ghost use Rattle.roles.specs.BindingSteps.{Bindable, boundBy, boundClaim, boundFrom, maxBindings};
-ghost use Rattle.roles.specs.Refusals.{maxWordBytes};
 
 // The length of a record in bytes.
 pub const BINDING_BYTES: usize = 12;

@@ -16,15 +16,15 @@ ghost use mathlib.Core.Option.{none};
 ghost use Prim.Native.Nat.{_+_, _*_, _/_, _≤_};
 ghost use lib.ListN.{drop, length};
 ghost use Rattle.opcodes.specs.Bytes.{overwrite, u32s};
-ghost use Rattle.roles.specs.Calls.{bindingsAfter, bindingsAnswer, rolesAfter, rolesAnswer};
-ghost use Rattle.roles.specs.Bindings.{writes};
+ghost use Rattle.chunk.specs.Calls.{bindingsAfter, bindingsAnswer, rolesAfter, rolesAnswer};
+ghost use Rattle.chunk.specs.Bindings.{writes};
+ghost use Rattle.chunk.specs.Refusals.{maxRows, maxWordBytes, rolesRefusal};
+ghost use Rattle.chunk.specs.Roles.{recordsOf, roleBytes, roles as protoRoles};
+ghost use Rattle.chunk.specs.Table.{rowAt, rowBytes};
 ghost use Rattle.roles.specs.BindingSteps.{BindsFrom, RoomForAllOrNone, boundIn, boundRows};
 ghost use Rattle.roles.specs.Contracts.{answerOf, protoIn};
 ghost use Rattle.roles.specs.declared.calls.Answer.the-variants.{Refused};
 ghost use Rattle.roles.specs.declared.refusals.Refusal.the-variants.{BufferTooShort};
-ghost use Rattle.roles.specs.Refusals.{maxRows, maxWordBytes, rolesRefusal};
-ghost use Rattle.roles.specs.Roles.{recordsOf, roleBytes, roles as protoRoles};
-ghost use Rattle.roles.specs.Table.{rowAt, rowBytes};
 
 // A call's answer: a refusal, or the number of its records.
 pub enum Answer {

@@ -16,13 +16,13 @@ ghost use Prim.Native.Nat.{_+_, _*_, _/_, _<_, _≤_};
 ghost use lib.ListN.{length, take};
 ghost use Rattle.opcodes.specs.Bytes.{overwrite, u32s};
 ghost use Rattle.opcodes.specs.Lists.{tabulate};
-ghost use Rattle.roles.specs.Bindings.{writes};
+ghost use Rattle.chunk.specs.Bindings.{writes};
+ghost use Rattle.chunk.specs.Refusals.{maxRows, maxWordBytes};
+ghost use Rattle.chunk.specs.Roles.{ClosureBinding, recordsOf, roleBytes, roles};
+ghost use Rattle.chunk.specs.Table.{rowAt, rowBytes};
 ghost use Rattle.roles.specs.BindingSteps.{BindsFrom, boundIn};
 ghost use Rattle.roles.specs.Contracts.{Tracks, childBindings, claimedRoles, companionsOf, protoIn};
 ghost use Rattle.roles.specs.declared.discovery.Companions.the-variants.{Extra, None};
-ghost use Rattle.roles.specs.Refusals.{maxRows, maxWordBytes};
-ghost use Rattle.roles.specs.Roles.{ClosureBinding, recordsOf, roleBytes, roles};
-ghost use Rattle.roles.specs.Table.{rowAt, rowBytes};
 
 // The opcodes that own words, by their numbers (docs/DECISIONS.md says why not by `Opcode51`).
 const CLOSURE: u8 = 36;

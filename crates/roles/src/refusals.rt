@@ -12,9 +12,9 @@ ghost use mathlib.Core.Path.{_≡_};
 ghost use Prim.Native.Nat.{_+_, _*_, _/_, _^_, _<_, _≤_};
 ghost use lib.Dec.{ltb};
 ghost use lib.ListN.{length};
+ghost use Rattle.chunk.specs.Refusals.{badDepth, badField, depthFits, fieldsFit, imageRefusal, maxRows, maxWordBytes, rolesRefusal};
+ghost use Rattle.chunk.specs.Table.{rowAt, rowBytes, rowFields, rows};
 ghost use Rattle.roles.specs.Contracts.{fieldTotal, givenRefusal};
-ghost use Rattle.roles.specs.Refusals.{badDepth, badField, depthFits, fieldsFit, imageRefusal, maxRows, maxWordBytes, rolesRefusal};
-ghost use Rattle.roles.specs.Table.{rowAt, rowBytes, rowFields, rows};
 
 pub const MAX_PROTOS: usize = 16384;
 

@@ -6,8 +6,8 @@ ghost use Prim.Native.Nat.{_+_, _*_, _≤_};
 ghost use mathlib.Core.List.{[], _∷_};
 ghost use lib.ListN.{length};
 ghost use Rattle.opcodes.specs.Bytes.{overwrite};
+ghost use Rattle.chunk.specs.Roles.{recordsOf, roleBytes};
 ghost use Rattle.roles.specs.Contracts.{indexField, ownerField, roleIn, roleOf};
-ghost use Rattle.roles.specs.Roles.{recordsOf, roleBytes};
 
 // The length of a record in bytes.
 pub const ROLE_BYTES: usize = 8;

@@ -7,8 +7,8 @@ use crate::table::find_child;
 ghost use mathlib.Core.Path.{_≡_};
 ghost use Prim.Native.Nat.{_+_, _*_, _≤_, suc};
 ghost use lib.ListN.{length};
+ghost use Rattle.chunk.specs.Table.{rowBytes};
 ghost use Rattle.roles.specs.Contracts.{Tracks, childFrom, childOfRow, isChild};
-ghost use Rattle.roles.specs.Table.{rowBytes};
 
 // Child `index` of the prototype is child 0 of those from row `row` on, and `first` binding records stand between the prototype's own and
 // those of that row. There is no child of number `end` or above.

@@ -4,8 +4,8 @@ use std::num::wrapping_add_u32;
 ghost use mathlib.Core.Path.{_≡_};
 ghost use Prim.Native.Nat.{_+_, _*_, _<_, _≤_};
 ghost use lib.ListN.{drop, length};
+ghost use Rattle.chunk.specs.Table.{childAt, fieldAt, rowBytes, rowFields, rows};
 ghost use Rattle.roles.specs.Contracts.{childFrom};
-ghost use Rattle.roles.specs.Table.{childAt, fieldAt, rowBytes, rowFields, rows};
 
 // The length of a row in bytes.
 pub const ROW_BYTES: usize = 20;

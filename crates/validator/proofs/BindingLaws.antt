@@ -15,11 +15,11 @@ use Rattle.opcodes.specs.Words.{B, opcode, operand, is, decoded, CLOSURE, SETLI
 use Rattle.opcodes.specs.declared.RawInstruction51.{RawInstruction51}
 use Rattle.opcodes.proofs.ListLaws.{flatMap-append, upFrom-append}
 use Rattle.opcodes.proofs.TestLaws.{T-true, is-not}
+use Rattle.chunk.specs.Roles.{Instruction, isExecutable, Executable, executableAt, roleAt, wordAt, roles, owned, existing, companions, bindingCount, bindingWords, hasExtra}
+use Rattle.chunk.specs.Table.{Proto}
 use Rattle.roles.specs.Contracts.{roleIn}
-use Rattle.roles.specs.Roles.{Instruction, isExecutable, Executable, executableAt, roleAt, wordAt, roles, owned, existing, companions, bindingCount, bindingWords, hasExtra}
-use Rattle.roles.specs.Table.{Proto}
-use Rattle.roles.proofs.RoleBufferLaws.{length-roles}
-use Rattle.roles.proofs.RoleLaws.{exists, next-executable, owned-count, companion-unexecutable}
+use Rattle.chunk.proofs.RoleBufferLaws.{length-roles}
+use Rattle.chunk.proofs.RoleLaws.{exists, next-executable, owned-count, companion-unexecutable}
 use Rattle.verdict.specs.Diagnostics.{Diagnostic, diagnostic, notBelow, opcodeValue, bindingDiagnostics}
 use Rattle.verdict.specs.Operands.{isUnknown, isBinding, capturedRegister, capturedUpvalue}
 use Rattle.validator.specs.Contracts.{Describes}

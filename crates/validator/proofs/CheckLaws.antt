@@ -11,21 +11,21 @@ use lib.Seq.{getD-drop, length-take-le}
 use borrow.Author.Tests.{lt-ltb, le-ltb}
 use Rattle.opcodes.specs.Bytes.{u32s, i32Record, u32Record, overwrite}
 use Rattle.opcodes.proofs.ByteLaws.{length-u32s, length-overwrite, overwrite-none}
+use Rattle.chunk.specs.Calls.{answer, refused, accepted, filled, rolesAnswer, rolesAfter}
+use Rattle.chunk.specs.Refusals.{Refused, orElse, refuse, refuseIf, tooShort, rolesRefusal, wordTotal}
+use Rattle.chunk.specs.Roles.{roleAt, roleBytes, recordsOf, roles}
+use Rattle.chunk.specs.Table.{Row, Proto, rowBytes, rowAt, rows, protos, protosOf, protoOf}
 use Rattle.roles.specs.Contracts.{refusedOf, answerOf as rolesAnswerOf, protoIn, roleIn}
-use Rattle.roles.specs.Calls.{answer, refused, accepted, filled, rolesAnswer, rolesAfter}
-use Rattle.roles.specs.Refusals.{Refused, orElse, refuse, refuseIf, tooShort, rolesRefusal, wordTotal}
-use Rattle.roles.specs.Roles.{roleAt, roleBytes, recordsOf, roles}
-use Rattle.roles.specs.Table.{Row, Proto, rowBytes, rowAt, rows, protos, protosOf, protoOf}
 use Rattle.roles.specs.declared.calls.Answer.{Answer as Answered}
 use Rattle.roles.specs.declared.calls.Answer.the-variants as answered
 use Rattle.roles.specs.declared.refusals.Refusal.{Refusal}
 use Rattle.roles.specs.declared.refusals.Refusal.the-variants as refusal
-use Rattle.roles.proofs.RefusalLaws.{ImageKept, orElse-none, image-kept, roles-kept}
-use Rattle.roles.proofs.RoleBufferLaws.{role-looked-up}
-use Rattle.roles.proofs.RoleFillLaws.{protos-drop}
-use Rattle.roles.proofs.TableLaws.{drop-rows, length-rows}
-use Rattle.roles.proofs.TotalLaws.{words-front, words-next}
-use Rattle.roles.proofs.WrittenLaws.{accepted-none}
+use Rattle.chunk.proofs.RefusalLaws.{ImageKept, orElse-none, image-kept, roles-kept}
+use Rattle.chunk.proofs.TotalLaws.{protos-drop}
+use Rattle.chunk.proofs.TableLaws.{drop-rows, length-rows}
+use Rattle.chunk.proofs.TotalLaws.{words-front, words-next}
+use Rattle.chunk.proofs.WrittenLaws.{accepted-none}
+use Rattle.roles.proofs.RoleLookupLaws.{role-looked-up}
 use Rattle.verdict.specs.Check.{Checked, checked, checkRefusal, checkAnswer, diagnosticsAfter}
 use Rattle.verdict.specs.Image.{Image, diagnostics}
 use Rattle.verdict.specs.Statements.{Accepted, Guarantee}

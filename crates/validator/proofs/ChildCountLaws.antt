@@ -8,8 +8,8 @@ use mathlib.Core.List.{List, _∷_}
 use lib.Dec.{eqb}
 use lib.ListN.{length, drop, drop-of-length-le}
 use borrow.Author.Tests.{eqb-true, eqb-false}
-use Rattle.roles.specs.Table.{Row, rowBytes, fieldAt, rowAt, rows, below, children}
-use Rattle.roles.proofs.TableLaws.{length-rows, drop-rows, children-end, children-found, children-deeper}
+use Rattle.chunk.specs.Table.{Row, rowBytes, fieldAt, rowAt, rows, below, children}
+use Rattle.chunk.proofs.TableLaws.{length-rows, drop-rows, children-end, children-found, children-deeper}
 use Rattle.validator.specs.Contracts.{prototypeOf}
 
 -- how many children of a row of this depth stand in the rows from i on

@@ -6,8 +6,8 @@ use mathlib.Core.Bool.{true, false}
 use mathlib.Core.List.{List}
 use lib.ListN.{length, drop}
 use Rattle.opcodes.specs.Bytes.{u32s}
+use Rattle.chunk.specs.Table.{rowBytes, rowAt}
 use Rattle.roles.specs.Contracts.{protoIn}
-use Rattle.roles.specs.Table.{rowBytes, rowAt}
 use Rattle.verdict.specs.Diagnostics.{protoSteps}
 use Rattle.validator.specs.Contracts.{prototypeOf}
 use Rattle.validator.specs.Steps.{State, Ready, testedOf, movedTo, ownSteps, stepRow, walkTo}

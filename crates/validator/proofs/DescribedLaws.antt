@@ -6,9 +6,9 @@ use mathlib.Core.List.{List}
 use lib.ListN.{length, getD}
 use Rattle.opcodes.specs.Bytes.{u32At}
 use Rattle.opcodes.proofs.ByteLaws.{getD-u32s, length-u32s}
+use Rattle.chunk.specs.Roles.{Role, isExecutable, roleAt, wordAt}
+use Rattle.chunk.specs.Table.{Proto}
 use Rattle.roles.specs.Contracts.{roleIn}
-use Rattle.roles.specs.Roles.{Role, isExecutable, roleAt, wordAt}
-use Rattle.roles.specs.Table.{Proto}
 use Rattle.validator.specs.Contracts.{Describes}
 use Rattle.validator.specs.declared.prototype.Prototype.{Prototype}
 

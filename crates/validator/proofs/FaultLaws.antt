@@ -15,12 +15,12 @@ use Rattle.opcodes.specs.Words.{is, decoded, operand, fieldBx, C, CLOSURE, SETL
 use Rattle.opcodes.specs.declared.RawInstruction51.{RawInstruction51}
 use Rattle.opcodes.proofs.AllLaws.{all-append, all-at, all-upFrom, all-upTo, flatMap-none}
 use Rattle.opcodes.proofs.ListLaws.{length-tabulate, upFrom-append, flatMap-append}
-use Rattle.roles.specs.Table.{Proto, rowAt, rows, childAt}
+use Rattle.chunk.specs.Table.{Proto, rowAt, rows, childAt}
+use Rattle.chunk.specs.Roles.{Role, Instruction, ClosureBinding, SetlistExtra, isExecutable, executableAt, Executable, bindingCount, hasExtra, claims, roleAt, wordAt, owned, existing, companions, isTruncated}
 use Rattle.roles.specs.Contracts.{childFrom, childOfRow, childBindings, protoIn, roleIn}
 use Rattle.roles.specs.declared.table.Child.{Child}
 use Rattle.roles.specs.declared.table.Child.the-variants as child
-use Rattle.roles.specs.Roles.{Role, Instruction, ClosureBinding, SetlistExtra, isExecutable, executableAt, Executable, bindingCount, hasExtra, claims, roleAt, wordAt, owned, existing, companions, isTruncated}
-use Rattle.roles.proofs.RoleLaws.{executable-role, exists, role, executable, first-executable, next-executable, owned-count, owned-role}
+use Rattle.chunk.proofs.RoleLaws.{executable-role, exists, role, executable, first-executable, next-executable, owned-count, owned-role}
 use Rattle.roles.proofs.OwnerLaws.{has-opcode, has-other}
 use Rattle.roles.proofs.SearchLaws.{FoundChild, found-child, missing-child, anew}
 use Rattle.verdict.specs.Diagnostics.{diagnostic, truncationAt}

@@ -14,8 +14,8 @@ use Rattle.opcodes.specs.declared.Opcode51.{Opcode51}
 use Rattle.opcodes.specs.declared.OpcodeField.the-variants.{Known, Unknown}
 use Rattle.opcodes.specs.declared.RawInstruction51.{RawInstruction51}
 use Rattle.opcodes.proofs.TestLaws.{by-cond}
-use Rattle.roles.specs.Roles.{executableAt, wordAt, bindingCount, bindingWords, existing}
-use Rattle.roles.specs.Table.{Proto}
+use Rattle.chunk.specs.Roles.{executableAt, wordAt, bindingCount, bindingWords, existing}
+use Rattle.chunk.specs.Table.{Proto}
 use Rattle.verdict.specs.Diagnostics.{opcodeDiagnostics, jumpDiagnostics, skipDiagnostics, operandDiagnostics, bindingDiagnostics, knownDiagnostics, wordDiagnostics}
 use Rattle.verdict.specs.Operands.{isUnknown}
 use Rattle.validator.specs.Contracts.{Decodes}

@@ -11,10 +11,10 @@ use lib.ListN.{length}
 use Rattle.opcodes.specs.Bytes.{i32Bits}
 use Rattle.opcodes.specs.Lists.{upFrom}
 use Rattle.opcodes.proofs.TestLaws.{T-true}
+use Rattle.chunk.specs.Roles.{Executable, executableAt, isExecutable, wordAt}
+use Rattle.chunk.specs.Table.{Proto}
 use Rattle.roles.specs.Contracts.{roleIn}
-use Rattle.roles.specs.Roles.{Executable, executableAt, isExecutable, wordAt}
-use Rattle.roles.specs.Table.{Proto}
-use Rattle.roles.proofs.RoleLaws.{executable}
+use Rattle.chunk.proofs.RoleLaws.{executable}
 use Rattle.verdict.specs.Diagnostics.{Diagnostic, Step, testedStep, untestedStep, hasLargeStack, stackDiagnostics, truncationAt, wordDiagnostics, diagnosticsAt, protoSteps}
 use Rattle.validator.specs.Contracts.{Limits, Describes, faultDiagnostics}
 use Rattle.validator.specs.Steps.{State, emittedIf, emitAll, ended, testedOf, advance}

@@ -7,14 +7,14 @@ use lib.ListN.{length, take, drop, length-map, length-take}
 use lib.Seq.{take-all, length-take-le}
 use Rattle.opcodes.specs.Bytes.{u32s}
 use Rattle.opcodes.proofs.ByteLaws.{length-u32s}
+use Rattle.chunk.specs.Refusals.{maxRows, maxWordBytes, wordTotal}
+use Rattle.chunk.specs.Roles.{roleAt, roleBytes}
+use Rattle.chunk.specs.Table.{Row, Proto, rowBytes, rowAt, rows, children, protoOf}
 use Rattle.roles.specs.Contracts.{protoIn, roleIn}
-use Rattle.roles.specs.Refusals.{maxRows, maxWordBytes, wordTotal}
-use Rattle.roles.specs.Roles.{roleAt, roleBytes}
-use Rattle.roles.specs.Table.{Row, Proto, rowBytes, rowAt, rows, children, protoOf}
-use Rattle.roles.proofs.RefusalLaws.{ImageKept, image-kept}
+use Rattle.chunk.proofs.RefusalLaws.{ImageKept, image-kept}
+use Rattle.chunk.proofs.TableLaws.{length-rows}
+use Rattle.chunk.proofs.TotalLaws.{words-front, words-next}
 use Rattle.roles.proofs.RoleFillLaws.{part-length, part-proto}
-use Rattle.roles.proofs.TableLaws.{length-rows}
-use Rattle.roles.proofs.TotalLaws.{words-front, words-next}
 use Rattle.verdict.specs.Diagnostics.{protoSteps}
 use Rattle.validator.specs.Contracts.{Describes, prototypeOf}
 use Rattle.validator.specs.Steps.{State, Ready, advance, ownSteps}

@@ -8,12 +8,12 @@ use lib.Dec.{leb, ltb, nleb→lt}
 use lib.ListN.{length, take, drop}
 use borrow.Author.Tests.{ltb-true, ltb-false, lt-leb, le-leb}
 use Rattle.opcodes.specs.Bytes.{u32s}
-use Rattle.roles.specs.Table.{rowBytes, rowAt, rows}
-use Rattle.roles.specs.Refusals.{wordTotal}
+use Rattle.chunk.specs.Table.{rowBytes, rowAt, rows}
+use Rattle.chunk.specs.Refusals.{wordTotal}
 use Rattle.roles.specs.Contracts.{protoIn}
 use Rattle.verdict.specs.Diagnostics.{Diagnostic, Step, testedStep, protoSteps}
 use Rattle.opcodes.proofs.TestLaws.{true≢false, or-false, by-cond}
-use Rattle.roles.proofs.TotalLaws.{words-next}
+use Rattle.chunk.proofs.TotalLaws.{words-next}
 use Rattle.verdict.proofs.TreeLaws.{Begins as TestFirst, begins, proto-begins}
 use Rattle.validator.specs.declared.walk.WalkState.{WalkState}
 use Rattle.validator.specs.Steps.{State, emitted, emit, emitAll, ended, testedOf, advance, movedTo, ownSteps, onward, stepRow, walkFor, walkTo, goesOn}

@@ -13,8 +13,8 @@ use lib.Seq.{drop-drop}
 use borrow.Author.Tests.{le-leb, lt-leb, leb-true, leb-false}
 use Rattle.opcodes.specs.Bytes.{u32s, u32Record, i32Bits, i32Record, overwrite}
 use Rattle.opcodes.specs.Lists.{All, all-nil, all-cons, any}
-use Rattle.roles.specs.Table.{Row, rowBytes, rowAt, rows, protosOf, protos}
-use Rattle.roles.specs.Refusals.{wordTotal, badDepth}
+use Rattle.chunk.specs.Table.{Row, rowBytes, rowAt, rows, protosOf, protos}
+use Rattle.chunk.specs.Refusals.{wordTotal, badDepth}
 use Rattle.roles.specs.Contracts.{protoIn}
 use Rattle.verdict.specs.Diagnostics.{Diagnostic, isError, Step, protoSteps}
 use Rattle.verdict.specs.Walk.{RowDiagnostic, inRow, MAX-DIAGNOSTICS, Walk, start, countN, advance as advanceWalk, walkRow, walkFrom, walk, limitReached, hasErrors, diagnosticFields, diagnosticBytes, errorIn}
@@ -25,9 +25,9 @@ use Rattle.validator.specs.Steps.{State, emitted, emit, emitAll, ended, 
 use Rattle.validator.specs.Contracts.{concluded}
 use Rattle.opcodes.proofs.TestLaws.{or-false, by-cond}
 use Rattle.opcodes.proofs.AllLaws.{all-head, all-tail}
-use Rattle.roles.proofs.TableLaws.{length-rows, drop-rows}
-use Rattle.roles.proofs.TotalLaws.{words-next}
-use Rattle.roles.proofs.RefusalLaws.{depth-kept, image-kept}
+use Rattle.chunk.proofs.TableLaws.{length-rows, drop-rows}
+use Rattle.chunk.proofs.TotalLaws.{words-next}
+use Rattle.chunk.proofs.RefusalLaws.{depth-kept, image-kept}
 use Rattle.verdict.proofs.TreeLaws.{advance-ended}
 use Rattle.verdict.proofs.LimitLaws.{at-most}
 use Rattle.validator.proofs.RowLaws.{walk-limited}

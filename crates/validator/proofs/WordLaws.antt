@@ -14,10 +14,10 @@ use Rattle.opcodes.specs.declared.Opcode51.{Opcode51}
 use Rattle.opcodes.specs.declared.OpMode51.{OpMode51}
 use Rattle.opcodes.specs.declared.OpMode51.the-variants.{IABC, IABx, IAsBx}
 use Rattle.opcodes.specs.declared.RawInstruction51.{RawInstruction51}
+use Rattle.chunk.specs.Roles.{Role, isExecutable, roleAt}
+use Rattle.chunk.specs.Table.{Proto}
 use Rattle.roles.specs.Contracts.{roleIn, roleOf}
 use Rattle.roles.specs.declared.role.Lua51PhysicalRole.{Lua51PhysicalRole}
-use Rattle.roles.specs.Roles.{Role, isExecutable, roleAt}
-use Rattle.roles.specs.Table.{Proto}
 use Rattle.verdict.specs.Diagnostics.{Diagnostic, diagnostic, notBelow, targetDiagnostics, jumpDiagnostics, skipDiagnostics, operandDiagnostics}
 use Rattle.verdict.specs.Operands.{isJump, target, isSkip, skipTarget, constantBx, upvalueB, flagA, registerA, spanEnds, registerIn, constantIn, childBx}
 use Rattle.validator.specs.Contracts.{Decodes, Limits, Stands, ends, operandField, namesRegister, namesConstant}

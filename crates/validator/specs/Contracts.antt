@@ -11,9 +11,9 @@ use Rattle.opcodes.specs.Words.{Field, operand, is, isConstant, decoded}
 use Rattle.opcodes.specs.declared.Opcode51.{Opcode51}
 use Rattle.opcodes.specs.declared.OpcodeField.the-variants.{Known}
 use Rattle.opcodes.specs.declared.RawInstruction51.{RawInstruction51}
-use Rattle.roles.specs.Table.{Proto, rowAt, rows, children}
-use Rattle.roles.specs.Roles.{Role, Instruction, ClosureBinding, SetlistExtra, roleAt}
-use Rattle.roles.specs.Calls.{Answer, refused, accepted}
+use Rattle.chunk.specs.Table.{Proto, rowAt, rows, children}
+use Rattle.chunk.specs.Roles.{Role, Instruction, ClosureBinding, SetlistExtra, roleAt}
+use Rattle.chunk.specs.Calls.{Answer, refused, accepted}
 use Rattle.roles.specs.Contracts.{refusedOf, roleIn}
 use Rattle.verdict.specs.Diagnostics.{Diagnostic, diagnostic}
 use Rattle.verdict.specs.Walk.{Verdict, ValidForParser, Incomplete, Invalid, MAX-DIAGNOSTICS, verdictOf}

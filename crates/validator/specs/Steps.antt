@@ -9,9 +9,9 @@ use lib.Dec.{eqb, ltb, leb}
 use lib.ListN.{length, take, drop}
 use Rattle.opcodes.specs.Bytes.{u32s, u32Record, i32Bits, i32Record, overwrite}
 use Rattle.opcodes.specs.Lists.{any}
-use Rattle.roles.specs.Table.{rowBytes, rowAt, rows}
-use Rattle.roles.specs.Roles.{roleAt, roleBytes}
-use Rattle.roles.specs.Refusals.{wordTotal, imageRefusal}
+use Rattle.chunk.specs.Table.{rowBytes, rowAt, rows}
+use Rattle.chunk.specs.Roles.{roleAt, roleBytes}
+use Rattle.chunk.specs.Refusals.{wordTotal, imageRefusal}
 use Rattle.roles.specs.Contracts.{protoIn, roleIn}
 use Rattle.verdict.specs.Diagnostics.{Diagnostic, Step, protoSteps}
 use Rattle.verdict.specs.Walk.{RowDiagnostic, diagnosticFields, diagnosticBytes, errorIn}

@@ -15,10 +15,10 @@ ghost use lib.ListN.{getD, length};
 ghost use Rattle.opcodes.specs.Bytes.{u32s};
 ghost use Rattle.opcodes.specs.Lists.{upFrom};
 ghost use Rattle.opcodes.specs.Words.{decoded};
+ghost use Rattle.chunk.specs.Refusals.{maxRows, maxWordBytes};
+ghost use Rattle.chunk.specs.Roles.{claims};
+ghost use Rattle.chunk.specs.Table.{rowBytes};
 ghost use Rattle.roles.specs.Contracts.{protoIn, roleIn};
-ghost use Rattle.roles.specs.Refusals.{maxRows, maxWordBytes};
-ghost use Rattle.roles.specs.Roles.{claims};
-ghost use Rattle.roles.specs.Table.{rowBytes};
 ghost use Rattle.verdict.specs.Diagnostics.{truncationAt};
 ghost use Rattle.validator.specs.Contracts.{Describes, faultDiagnostics, lastOwner, prototypeOf};
 

@@ -11,8 +11,8 @@ ghost use mathlib.Core.Path.{_≡_};
 ghost use lib.Dec.{eqb};
 ghost use Prim.Native.Nat.{_+_, _*_, _/_, _<_, _≤_, suc};
 ghost use lib.ListN.{drop, length};
-ghost use Rattle.roles.specs.Refusals.{maxRows};
-ghost use Rattle.roles.specs.Table.{children, fieldAt, rowBytes, rowFields, rows};
+ghost use Rattle.chunk.specs.Refusals.{maxRows};
+ghost use Rattle.chunk.specs.Table.{children, fieldAt, rowBytes, rowFields, rows};
 ghost use Rattle.validator.specs.Contracts.{prototypeOf};
 
 // What the diagnostics of a prototype depend on beside its words and their roles.

@@ -9,7 +9,7 @@ ghost use mathlib.Core.List.{[], _∷_};
 ghost use lib.Dec.{leb};
 ghost use lib.IntN.{pos};
 ghost use Rattle.opcodes.specs.Lists.{only};
-ghost use Rattle.roles.specs.Refusals.{maxRows};
+ghost use Rattle.chunk.specs.Refusals.{maxRows};
 ghost use Rattle.verdict.specs.Diagnostics.{diagnostic, notBelow, testedStep};
 ghost use Rattle.validator.specs.Steps.{advance, emitAll, emitted, emittedIf, movedTo, testedOf};
 

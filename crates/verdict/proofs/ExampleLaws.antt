@@ -4,10 +4,10 @@ use mathlib.Core.List.{map, flatMap, flatten}
 use Rattle.opcodes.specs.Bytes.{u32Bytes, u32Record, u32s, u32At}
 use Rattle.opcodes.specs.Lists.{only}
 use Rattle.opcodes.specs.Words.{B, C, is, isConstant, constantIndex}
-use Rattle.roles.specs.Table.{rowAt, rows, below, children, childAt, protoOf, protosOf, protos}
-use Rattle.roles.specs.Roles.{bindingCount, hasExtra, claims, rolesFrom, roles, roleAt, wordAt, executableAt, owned, existing, isTruncated, companions, bindingWords}
-use Rattle.roles.specs.Bindings.{unbound, bindingIndex, bindingOf, writeOf, writesAt, writes, bindingTotal, firstBinding, setBinding, bindRows, bindings, bindingFields}
-use Rattle.roles.specs.Calls.{imageBindings}
+use Rattle.chunk.specs.Table.{rowAt, rows, below, children, childAt, protoOf, protosOf, protos}
+use Rattle.chunk.specs.Roles.{bindingCount, hasExtra, claims, rolesFrom, roles, roleAt, wordAt, executableAt, owned, existing, isTruncated, companions, bindingWords}
+use Rattle.chunk.specs.Bindings.{unbound, bindingIndex, bindingOf, writeOf, writesAt, writes, bindingTotal, firstBinding, setBinding, bindRows, bindings, bindingFields}
+use Rattle.chunk.specs.Calls.{imageBindings}
 use Rattle.verdict.specs.Operands.{isUnknown, isBinding, isJump, target, isLoadboolSkip, isSkip, skipTarget, constantBx, upvalueB, flagA, registerA, spanEnds, registerIn, constantIn, childBx, capturedRegister, capturedUpvalue}
 use Rattle.verdict.specs.Diagnostics.{truncationAt, hasLargeStack, stackDiagnostics, opcodeDiagnostics, targetDiagnostics, jumpDiagnostics, skipDiagnostics, notBelow, operandDiagnostics, opcodeValue, bindingDiagnostics, knownDiagnostics, wordDiagnostics, diagnosticsAt, testedStep, untestedStep, protoSteps}
 use Rattle.verdict.specs.Walk.{advance, walkRow, walkFrom, walk, limitReached, hasErrors, verdictOf, diagnosticFields}

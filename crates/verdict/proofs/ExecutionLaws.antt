@@ -10,13 +10,13 @@ use lib.ListN.{length}
 use lib.IntN.{ℤ, pos, negsuc}
 use Rattle.opcodes.specs.Lists.{all-nil, all-cons}
 use Rattle.opcodes.specs.Words.{operand, C, is, withSBx, JMP, FORPREP, FORLOOP, RETURN, TAILCALL, EQ, LT, LE, TEST, TESTSET, TFORLOOP, LOADBOOL, CLOSURE, SETLIST}
-use Rattle.roles.specs.Table.{Proto}
-use Rattle.roles.specs.Roles.{Executable, isExecutable, roleAt, wordAt, owned, existing, isTruncated, companions}
+use Rattle.chunk.specs.Table.{Proto}
+use Rattle.chunk.specs.Roles.{Executable, isExecutable, roleAt, wordAt, owned, existing, isTruncated, companions}
 use Rattle.verdict.specs.Operands.{isJump, isSkip, isLoadboolSkip, skipTarget, target}
 use Rattle.verdict.specs.Rules.{Lands, RulesAt, WellFormed, OperandsInRange}
 use Rattle.verdict.specs.Executions.{State, at, left, arrive, next, meet, runFrom, run, MayLeave, MayMeet, Safe, SafeRun}
 use Rattle.opcodes.proofs.TestLaws.{T-and, by-cond, by-or, or-right, disjoint, is-among}
-use Rattle.roles.proofs.RoleLaws.{role, executable, first-executable, next-executable, owns-none}
+use Rattle.chunk.proofs.RoleLaws.{role, executable, first-executable, next-executable, owns-none}
 
 -- a run may be here
 abbrev Fine : Proto → State → Type 0

@@ -6,19 +6,19 @@ use mathlib.Core.Logic.{_↔_, _⊎_}
 use mathlib.Core.List.{List, _++_, flatMap}
 use lib.ListN.{length, drop}
 use Rattle.opcodes.specs.Bytes.{i32Record}
-use Rattle.roles.specs.Table.{rows}
-use Rattle.roles.specs.Roles.{roles, recordsOf}
-use Rattle.roles.specs.Refusals.{Refused, rolesRefusal, wordTotal}
-use Rattle.roles.specs.Calls.{accepted, refused, rolesAfter}
+use Rattle.chunk.specs.Table.{rows}
+use Rattle.chunk.specs.Roles.{roles, recordsOf}
+use Rattle.chunk.specs.Refusals.{Refused, rolesRefusal, wordTotal}
+use Rattle.chunk.specs.Calls.{accepted, refused, rolesAfter}
 use Rattle.verdict.specs.Walk.{Verdict, diagnosticFields}
 use Rattle.verdict.specs.Image.{Image, imageProtos, diagnostics, verdict}
 use Rattle.verdict.specs.Check.{Checked, checked, checkRefusal, checkAnswer, diagnosticsAfter}
 use Rattle.verdict.specs.Statements.{Accepted, Guarantee}
 use Rattle.opcodes.proofs.AllLaws.{all-imp, all-of}
-use Rattle.roles.proofs.UntouchedLaws.{refused-leaves, refused-before}
+use Rattle.chunk.proofs.UntouchedLaws.{refused-leaves, refused-before}
 use Rattle.opcodes.proofs.ListLaws.{length-flatMap}
-use Rattle.roles.proofs.WrittenLaws.{accepted-none, accepted-result, written, fits, roles-written}
-use Rattle.roles.proofs.RefusalLaws.{orElse-none}
+use Rattle.chunk.proofs.WrittenLaws.{accepted-none, accepted-result, written, fits, roles-written}
+use Rattle.chunk.proofs.RefusalLaws.{orElse-none}
 use Rattle.verdict.proofs.ExecutionLaws.{runs-safe}
 use Rattle.verdict.proofs.WalkLaws.{valid-well-formed, well-formed-valid, invalid-iff}
 use Rattle.verdict.proofs.LimitLaws.{at-most}

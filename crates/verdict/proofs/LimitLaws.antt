@@ -12,10 +12,10 @@ use borrow.Author.Tests.{leb-true, leb-false}
 use Rattle.opcodes.specs.Lists.{All, all-cons, only, upFrom, select, keepIf}
 use Rattle.opcodes.specs.Words.{is, opcode, operand, fieldA, fieldBx, B, C, withSBx, withoutA, MOVE, GETUPVAL, LOADK, GETGLOBAL, SETGLOBAL, SETUPVAL, LOADBOOL, SELF, EQ, LT, LE, TEST, TESTSET, CALL, TAILCALL, RETURN, FORLOOP, FORPREP, TFORLOOP, SETLIST, CLOSURE, VARARG}
 use Rattle.opcodes.specs.Bytes.{u32s}
-use Rattle.roles.specs.Table.{rows, Proto, protos}
-use Rattle.roles.proofs.RefusalLaws.{image-kept}
-use Rattle.roles.proofs.TableLaws.{children-most}
-use Rattle.roles.specs.Roles.{isExecutable, roleAt, executableAt, wordAt, bindingCount, existing, bindingWords}
+use Rattle.chunk.specs.Table.{rows, Proto, protos}
+use Rattle.chunk.proofs.RefusalLaws.{image-kept}
+use Rattle.chunk.proofs.TableLaws.{children-most}
+use Rattle.chunk.specs.Roles.{isExecutable, roleAt, executableAt, wordAt, bindingCount, existing, bindingWords}
 use Rattle.verdict.specs.Operands.{isUnknown, isBinding, isJump, target, isSkip, isLoadboolSkip, skipTarget, constantBx, upvalueB, flagA, registerA, spanEnds, registerIn, constantIn, childBx, capturedRegister, capturedUpvalue}
 use Rattle.verdict.specs.Diagnostics.{Diagnostic, diagnostic, opcodeValue, notBelow, truncationAt, hasLargeStack, stackDiagnostics, opcodeDiagnostics, targetDiagnostics, jumpDiagnostics, skipDiagnostics, bindingDiagnostics, operandDiagnostics, knownDiagnostics, wordDiagnostics, diagnosticsAt, Step, testedStep, untestedStep, protoSteps}
 use Rattle.verdict.specs.Walk.{inRow, Walk, MAX-DIAGNOSTICS, countN, start, advance, walkRow, walkFrom, walk}

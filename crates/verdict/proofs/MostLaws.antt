@@ -12,8 +12,8 @@ use lib.ListN.{length, getD, take, replicate, length-append, length-map, length-
 use lib.Seq.{take-all, getD-at, getD-append-add}
 use Rattle.opcodes.specs.Lists.{All, all-nil, all-cons, only, upFrom, tabulate}
 use Rattle.opcodes.specs.Words.{is, B, C}
-use Rattle.roles.specs.Table.{Proto}
-use Rattle.roles.specs.Roles.{Role, Instruction, ClosureBinding, bindingCount, hasExtra, claims, rolesFrom, roles, roleAt, wordAt, executableAt, Executable, owned, existing, companions, isTruncated, bindingWords}
+use Rattle.chunk.specs.Table.{Proto}
+use Rattle.chunk.specs.Roles.{Role, Instruction, ClosureBinding, bindingCount, hasExtra, claims, rolesFrom, roles, roleAt, wordAt, executableAt, Executable, owned, existing, companions, isTruncated, bindingWords}
 use Rattle.verdict.specs.Operands.{isUnknown, isBinding, isJump, isSkip, isLoadboolSkip, constantBx, upvalueB, flagA, registerA, spanEnds, registerIn, constantIn, childBx, capturedRegister, capturedUpvalue}
 use Rattle.verdict.specs.Diagnostics.{Diagnostic, truncationAt, opcodeDiagnostics, jumpDiagnostics, skipDiagnostics, notBelow, operandDiagnostics, bindingDiagnostics, knownDiagnostics, wordDiagnostics, diagnosticsAt}
 use Rattle.verdict.specs.Diagnostics.{Step, testedStep, untestedStep, hasLargeStack, stackDiagnostics, protoSteps}
@@ -21,15 +21,15 @@ use Rattle.verdict.specs.Walk.{inRow, Walk, MAX-DIAGNOSTICS, countN, sta
 use Rattle.verdict.proofs.WalkLaws.{advance-going}
 use Rattle.verdict.proofs.TreeLaws.{Begins, begins, advance-ended, proto-begins}
 use Rattle.opcodes.specs.Bytes.{u32At, u32Bytes, u32Record}
-use Rattle.roles.specs.Table.{rowAt, rows, below, children, protoOf, protosOf, protos}
-use Rattle.roles.specs.Refusals.{refuseIf, orElse, depthFits, badDepth, fieldsFit, badField, wordTotal, imageRefusal}
+use Rattle.chunk.specs.Table.{rowAt, rows, below, children, protoOf, protosOf, protos}
+use Rattle.chunk.specs.Refusals.{refuseIf, orElse, depthFits, badDepth, fieldsFit, badField, wordTotal, imageRefusal}
 use Rattle.verdict.specs.Image.{Image, imageProtos, imageWalk, diagnostics}
 use Rattle.verdict.specs.Statements.{Accepted}
 use Rattle.opcodes.proofs.ByteLaws.{length-u32Record, u32s-record}
 use Rattle.opcodes.proofs.AllLaws.{all-append, all-upFrom, all-upTo, flatMap-none}
 use Rattle.opcodes.proofs.ListLaws.{length-upFrom, length-tabulate}
 use Rattle.opcodes.proofs.TestLaws.{T-true, by-cond}
-use Rattle.roles.proofs.RoleLaws.{role-executable, executable, owned-count}
+use Rattle.chunk.proofs.RoleLaws.{role-executable, executable, owned-count}
 
 -- a word of an unknown opcode
 abbrev junk : ℕ

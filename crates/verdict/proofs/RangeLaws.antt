@@ -11,10 +11,10 @@ use lib.IntN.{ℤ, pos, negsuc, subℕ, _+ℤ_}
 use Rattle.opcodes.specs.Lists.{All, all-nil, all-cons, only, upFrom, tabulate}
 use Rattle.opcodes.specs.Words.{Field, B, C, opcode, operand, fieldA, fieldBx, is, isConstant, constantIndex, CLOSURE}
 use Rattle.opcodes.specs.Bytes.{u32s, i32Bits}
-use Rattle.roles.specs.Table.{Row, rows, Proto, protoOf, protosOf, protos}
-use Rattle.roles.specs.Roles.{ClosureBinding, SetlistExtra, executableAt, wordAt, bindingCount, hasExtra, claims, owned, existing, bindingWords}
-use Rattle.roles.specs.Refusals.{imageRefusal, rolesRefusal}
-use Rattle.roles.specs.Calls.{accepted}
+use Rattle.chunk.specs.Table.{Row, rows, Proto, protoOf, protosOf, protos}
+use Rattle.chunk.specs.Roles.{ClosureBinding, SetlistExtra, executableAt, wordAt, bindingCount, hasExtra, claims, owned, existing, bindingWords}
+use Rattle.chunk.specs.Refusals.{imageRefusal, rolesRefusal}
+use Rattle.chunk.specs.Calls.{accepted}
 use Rattle.verdict.specs.Operands.{isUnknown, isJump, target, skipTarget, constantBx, upvalueB, flagA, registerA, spanEnds, registerIn, constantIn, childBx, capturedRegister, capturedUpvalue}
 use Rattle.verdict.specs.Diagnostics.{Diagnostic, diagnostic, truncationAt, stackDiagnostics, opcodeDiagnostics, targetDiagnostics, jumpDiagnostics, skipDiagnostics, notBelow, operandDiagnostics, opcodeValue, bindingDiagnostics, knownDiagnostics, wordDiagnostics, diagnosticsAt, Step, testedStep, untestedStep, protoSteps}
 use Rattle.verdict.specs.Walk.{RowDiagnostic, inRow, MAX-DIAGNOSTICS, Walk, start, countN, advance, walkRow, walkFrom, walk, diagnosticFields}
@@ -26,9 +26,9 @@ use Rattle.opcodes.proofs.ByteLaws.{length-u32s}
 use Rattle.opcodes.proofs.FieldLaws.{field-below, operand-below}
 use Rattle.opcodes.proofs.ListLaws.{length-tabulate}
 use Rattle.opcodes.proofs.TestLaws.{T-and, by-cond}
-use Rattle.roles.proofs.RefusalLaws.{FieldsKept, orElse-none, image-kept}
-use Rattle.roles.proofs.TableLaws.{length-protosOf, children-most}
-use Rattle.roles.proofs.WrittenLaws.{accepted-none}
+use Rattle.chunk.proofs.RefusalLaws.{FieldsKept, orElse-none, image-kept}
+use Rattle.chunk.proofs.TableLaws.{length-protosOf, children-most}
+use Rattle.chunk.proofs.WrittenLaws.{accepted-none}
 use Rattle.verdict.proofs.LimitLaws.{only-most}
 
 -- ---- numbers that an i32 holds

@@ -12,15 +12,15 @@ use borrow.Author.Tests.{le-ltb}
 use lib.IntN.{ℤ, pos, negsuc}
 use Rattle.opcodes.specs.Lists.{All, all-nil, all-cons, only, upFrom, select, keepIf}
 use Rattle.opcodes.specs.Words.{opcode, is, B, C, CLOSURE}
-use Rattle.roles.specs.Table.{Proto}
-use Rattle.roles.specs.Roles.{isExecutable, executableAt, Executable, roleAt, wordAt, owned, existing, companions, isTruncated, bindingWords}
+use Rattle.chunk.specs.Table.{Proto}
+use Rattle.chunk.specs.Roles.{isExecutable, executableAt, Executable, roleAt, wordAt, owned, existing, companions, isTruncated, bindingWords}
 use Rattle.verdict.specs.Operands.{isUnknown, isBinding, isJump, target, isSkip, skipTarget, constantBx, upvalueB, flagA, registerA, spanEnds, registerIn, constantIn, childBx, capturedRegister, capturedUpvalue}
 use Rattle.verdict.specs.Diagnostics.{Diagnostic, diagnostic, isError, notBelow, truncationAt, opcodeDiagnostics, targetDiagnostics, jumpDiagnostics, skipDiagnostics, bindingDiagnostics, operandDiagnostics, knownDiagnostics, wordDiagnostics, diagnosticsAt}
 use Rattle.verdict.specs.Statements.{RulesByCodes}
 use Rattle.verdict.specs.Rules.{Below, registersOf, constantsOf, Lands, BindingKept, RulesAt, WellFormed}
 use Rattle.opcodes.proofs.AllLaws.{all-left, all-right, all-head, all-tail, all-flatten, flatten-all}
 use Rattle.opcodes.proofs.TestLaws.{T-true, not-not, double-not, by-cond}
-use Rattle.roles.proofs.RoleLaws.{exists, role, executable}
+use Rattle.chunk.proofs.RoleLaws.{exists, role, executable}
 
 abbrev pub Warns : Diagnostic → Type 0
 Warns d = T (not (isError d))

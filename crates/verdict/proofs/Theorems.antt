@@ -11,12 +11,12 @@ use lib.Dec.{T}
 use lib.ListN.{length, getD, drop, set}
 use Rattle.opcodes.specs.Lists.{All, Some, only}
 use Rattle.opcodes.specs.Words.{is, B, C}
-use Rattle.roles.specs.Table.{Row, rows, Proto, protos}
-use Rattle.roles.specs.Roles.{Instruction, isExecutable, Executable, bindingCount, hasExtra, claims, rolesFrom, roles, roleAt, wordAt, executableAt, owned, existing, companions, isTruncated, bindingWords, recordsOf}
+use Rattle.chunk.specs.Table.{Row, rows, Proto, protos}
+use Rattle.chunk.specs.Roles.{Instruction, isExecutable, Executable, bindingCount, hasExtra, claims, rolesFrom, roles, roleAt, wordAt, executableAt, owned, existing, companions, isTruncated, bindingWords, recordsOf}
 use Rattle.opcodes.specs.Bytes.{i32Record}
-use Rattle.roles.specs.Bindings.{bindingBytes, bindingRecords}
-use Rattle.roles.specs.Refusals.{Refused, wordTotal}
-use Rattle.roles.specs.Calls.{accepted, refused, rolesAnswer, rolesAfter, imageBindings, bindingsRefusal, bindingsAnswer, bindingsAfter}
+use Rattle.chunk.specs.Bindings.{bindingBytes, bindingRecords}
+use Rattle.chunk.specs.Refusals.{Refused, wordTotal}
+use Rattle.chunk.specs.Calls.{accepted, refused, rolesAnswer, rolesAfter, imageBindings, bindingsRefusal, bindingsAnswer, bindingsAfter}
 use Rattle.verdict.specs.Operands.{isUnknown, isBinding, target, isJump, isSkip, isLoadboolSkip, constantBx, upvalueB, flagA, registerA, spanEnds, registerIn, constantIn, childBx}
 use Rattle.verdict.specs.Diagnostics.{Step, testedStep, protoSteps, truncationAt, opcodeDiagnostics, jumpDiagnostics, skipDiagnostics, notBelow, operandDiagnostics, knownDiagnostics, wordDiagnostics, diagnosticsAt}
 use Rattle.verdict.specs.Walk.{Walk, inRow, diagnosticFields, countN, advance, MAX-DIAGNOSTICS, ValidForParser, Invalid}
@@ -27,10 +27,10 @@ use Rattle.verdict.specs.Executions.{arrive, next, meet, runFrom, run, S
 use Rattle.verdict.specs.Statements.{Accepted, largeStacks, IsError, RulesByCodes, walkByChildren, Passed, Guarantee}
 use Rattle.verdict.specs.Examples.{result, examples, misreadings, runExamples}
 use Rattle.opcodes.proofs.AllLaws.{all-head, all-tail, all-imp}
-use Rattle.roles.proofs.RefusalLaws.{orElse-none}
-use Rattle.roles.proofs.WrittenLaws.{accepted-none, roles-written, bindings-written}
-use Rattle.roles.proofs.UntouchedLaws.{roles-untouched, bindings-untouched}
-use Rattle.roles.proofs.RoleLaws.{executable, first-executable, owned-role, companion-unread}
+use Rattle.chunk.proofs.RefusalLaws.{orElse-none}
+use Rattle.chunk.proofs.WrittenLaws.{accepted-none, roles-written, bindings-written}
+use Rattle.chunk.proofs.UntouchedLaws.{roles-untouched, bindings-untouched}
+use Rattle.chunk.proofs.RoleLaws.{executable, first-executable, owned-role, companion-unread}
 use Rattle.verdict.proofs.RuleLaws.{well-formed-iff-none, rules-by-codes}
 use Rattle.verdict.proofs.ExecutionLaws.{runs-safe}
 use Rattle.verdict.proofs.WalkLaws.{valid-well-formed, well-formed-valid, invalid-iff, advance-going, word-is-one-step}

@@ -13,16 +13,16 @@ use lib.Seq.{take-add, take-length, length-take-le}
 use borrow.Author.Tests.{leb-false, ltb-true, ltb-false}
 use Rattle.opcodes.specs.Lists.{All, all-cons}
 use Rattle.opcodes.specs.Bytes.{u32s}
-use Rattle.roles.specs.Table.{Row, rows, below, Proto, protoOf, protosOf, protos}
-use Rattle.roles.specs.Refusals.{badDepth}
+use Rattle.chunk.specs.Table.{Row, rows, below, Proto, protoOf, protosOf, protos}
+use Rattle.chunk.specs.Refusals.{badDepth}
 use Rattle.verdict.specs.Diagnostics.{Step, testedStep, protoSteps}
 use Rattle.verdict.specs.Walk.{Walk, MAX-DIAGNOSTICS, countN, start, advance, walkRow, walkFrom, walk}
 use Rattle.verdict.specs.Image.{Image, imageProtos, imageWalk}
 use Rattle.verdict.specs.Statements.{Accepted, walkChildren, walkByChildren}
 use Rattle.opcodes.proofs.TestLaws.{or-false}
 use Rattle.opcodes.proofs.AllLaws.{all-drop, all-of, all-map}
-use Rattle.roles.proofs.TableLaws.{below-end, below-next, below-split, length-protosOf}
-use Rattle.roles.proofs.RefusalLaws.{depth-kept, image-kept}
+use Rattle.chunk.proofs.TableLaws.{below-end, below-next, below-split, length-protosOf}
+use Rattle.chunk.proofs.RefusalLaws.{depth-kept, image-kept}
 use Rattle.verdict.proofs.WalkLaws.{advance-none}
 
 -- ---- tests of N

@@ -11,7 +11,7 @@ use lib.ListN.{length, length-append, length-map}
 use lib.IntN.{pos, negsuc}
 use borrow.Author.Tests.{lt-leb, lt-ltb, le-ltb, eqb-false, ne-eqb}
 use Rattle.opcodes.specs.Lists.{All, all-nil, all-cons, only, upFrom, select, keepIf, any, Some, here, there}
-use Rattle.roles.specs.Table.{Proto}
+use Rattle.chunk.specs.Table.{Proto}
 use Rattle.verdict.specs.Diagnostics.{Diagnostic, truncationAt, hasLargeStack, stackDiagnostics, diagnosticsAt, Step, testedStep, untestedStep, protoSteps}
 use Rattle.verdict.specs.Rules.{WellFormed}
 use Rattle.verdict.specs.Walk.{RowDiagnostic, inRow, MAX-DIAGNOSTICS, Walk, start, countN, advance, walkRow, walkFrom, walk, Verdict, ValidForParser, Incomplete, Invalid, limitReached, hasErrors, verdictOf, errorIn}

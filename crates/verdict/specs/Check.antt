@@ -5,8 +5,8 @@ use mathlib.Core.List.{List, flatMap}
 use mathlib.Core.Option.{Option}
 use lib.ListN.{length}
 use Rattle.opcodes.specs.Bytes.{i32Record}
-use Rattle.roles.specs.Refusals.{Refused, orElse, rolesRefusal, tooShort}
-use Rattle.roles.specs.Calls.{Answer, answer, filled}
+use Rattle.chunk.specs.Refusals.{Refused, orElse, rolesRefusal, tooShort}
+use Rattle.chunk.specs.Calls.{Answer, answer, filled}
 use Rattle.verdict.specs.Walk.{Verdict, diagnosticFields, diagnosticBytes}
 use Rattle.verdict.specs.Image.{Image, diagnostics, verdict}
 

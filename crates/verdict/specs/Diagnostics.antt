@@ -7,8 +7,8 @@ use lib.ListN.{length}
 use lib.IntN.{ℤ, pos, negsuc}
 use Rattle.opcodes.specs.Lists.{only, upFrom, select}
 use Rattle.opcodes.specs.Words.{opcode, is, B, C, CLOSURE}
-use Rattle.roles.specs.Table.{Proto}
-use Rattle.roles.specs.Roles.{roleAt, isExecutable, wordAt, executableAt, owned, isTruncated, bindingWords}
+use Rattle.chunk.specs.Table.{Proto}
+use Rattle.chunk.specs.Roles.{roleAt, isExecutable, wordAt, executableAt, owned, isTruncated, bindingWords}
 use Rattle.verdict.specs.Operands.{isUnknown, isBinding, isJump, target, isSkip, skipTarget, constantBx, upvalueB, flagA, registerA, spanEnds, registerIn, constantIn, childBx, capturedRegister, capturedUpvalue}
 
 -- a diagnostic (the document's finding) but for its row; `code` is the number in the document's table

@@ -5,9 +5,9 @@ use mathlib.Core.Bool.{Bool, true, false}
 use mathlib.Core.List.{List, [], _∷_, _++_, flatMap}
 use lib.IntN.{ℤ, pos, negsuc}
 use Rattle.opcodes.specs.Bytes.{u32Record}
-use Rattle.roles.specs.Table.{Proto}
-use Rattle.roles.specs.Bindings.{bindingFields}
-use Rattle.roles.specs.Calls.{imageBindings}
+use Rattle.chunk.specs.Table.{Proto}
+use Rattle.chunk.specs.Bindings.{bindingFields}
+use Rattle.chunk.specs.Calls.{imageBindings}
 use Rattle.verdict.specs.Walk.{Verdict, ValidForParser, Incomplete, Invalid, diagnosticFields}
 use Rattle.verdict.specs.Executions.{Exit, endedAt, noWordAt, outOfChoices, Trace}
 use Rattle.verdict.specs.Image.{Image, diagnostics, verdict}

@@ -7,8 +7,8 @@ use lib.ListN.{length}
 use lib.IntN.{ℤ, pos, negsuc}
 use Rattle.opcodes.specs.Lists.{All}
 use Rattle.opcodes.specs.Words.{is, JMP, FORPREP, FORLOOP, RETURN, TAILCALL}
-use Rattle.roles.specs.Table.{Proto}
-use Rattle.roles.specs.Roles.{Executable, wordAt, companions}
+use Rattle.chunk.specs.Table.{Proto}
+use Rattle.chunk.specs.Roles.{Executable, wordAt, companions}
 use Rattle.verdict.specs.Operands.{isSkip, isLoadboolSkip, skipTarget, target}
 use Rattle.verdict.specs.Rules.{OperandsInRange}
 

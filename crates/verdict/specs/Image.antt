@@ -1,7 +1,7 @@
 -- What is said of an image: its prototypes, diagnostics and verdict. Assumes nothing: these are definitions.
 use Prim.Native.Nat.{ℕ, _+_}
 use mathlib.Core.List.{List, map}
-use Rattle.roles.specs.Table.{Proto, protos}
+use Rattle.chunk.specs.Table.{Proto, protos}
 use Rattle.verdict.specs.Diagnostics.{protoSteps}
 use Rattle.verdict.specs.Walk.{Walk, RowDiagnostic, Verdict, walk, limitReached, hasErrors, verdictOf}
 

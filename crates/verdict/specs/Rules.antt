@@ -8,8 +8,8 @@ use lib.ListN.{length}
 use lib.IntN.{ℤ, pos, negsuc}
 use Rattle.opcodes.specs.Lists.{All}
 use Rattle.opcodes.specs.Words.{B, C}
-use Rattle.roles.specs.Table.{Proto}
-use Rattle.roles.specs.Roles.{Executable, isExecutable, roleAt, wordAt, isTruncated, bindingWords}
+use Rattle.chunk.specs.Table.{Proto}
+use Rattle.chunk.specs.Roles.{Executable, isExecutable, roleAt, wordAt, isTruncated, bindingWords}
 use Rattle.verdict.specs.Operands.{isUnknown, isBinding, isJump, target, isSkip, skipTarget, constantBx, upvalueB, flagA, registerA, spanEnds, registerIn, constantIn, childBx, capturedRegister, capturedUpvalue}
 
 -- each of some operands is below the limit

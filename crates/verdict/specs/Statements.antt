@@ -10,9 +10,9 @@ use lib.ListN.{length, drop}
 use Rattle.opcodes.specs.Lists.{All, Some, select, upFrom}
 use Rattle.opcodes.specs.Words.{B, C}
 use Rattle.opcodes.specs.Bytes.{u32s}
-use Rattle.roles.specs.Table.{Row, below, Proto, protoOf, protosOf}
-use Rattle.roles.specs.Roles.{wordAt, isTruncated, bindingWords}
-use Rattle.roles.specs.Refusals.{imageRefusal}
+use Rattle.chunk.specs.Table.{Row, below, Proto, protoOf, protosOf}
+use Rattle.chunk.specs.Roles.{wordAt, isTruncated, bindingWords}
+use Rattle.chunk.specs.Refusals.{imageRefusal}
 use Rattle.verdict.specs.Operands.{isUnknown, constantBx, upvalueB, flagA, registerA, spanEnds, registerIn, constantIn, childBx}
 use Rattle.verdict.specs.Diagnostics.{hasLargeStack, truncationAt, opcodeDiagnostics, jumpDiagnostics, skipDiagnostics, notBelow, bindingDiagnostics, Step, testedStep, protoSteps}
 use Rattle.verdict.specs.Walk.{RowDiagnostic, MAX-DIAGNOSTICS, Walk, start, advance, walkRow, ValidForParser, Invalid}

@@ -4,8 +4,8 @@ use native.Mathlib.Omega.{arith}
 use borrow.Author.Needs.{needs}
 use lib.ListN.{drop, length-drop}
 use lib.Seq.{length-take-le}
-use Rattle.roles.specs.Bindings.{bindingBytes}
-use Rattle.roles.proofs.BindingRecordLaws.{child-bound}
+use Rattle.chunk.specs.Bindings.{bindingBytes}
+use Rattle.roles.proofs.BindingStepLaws.{child-bound}
 use Rattle.roles.proofs.bindings.bind_child.Statement.{statement}
 use Rattle.roles.proofs.bindings.bind_child.Tie as tie
 

@@ -2,7 +2,7 @@
 use native.Mathlib.Omega.{arith}
 use mathlib.Core.Path.{refl}
 use borrow.Author.Needs.{needs}
-use Rattle.roles.proofs.BindingRecordLaws.{claim-none, claim-extra, claim-bound, claim-unfit, bindable-child}
+use Rattle.roles.proofs.BindingStepLaws.{claim-none, claim-extra, claim-bound, claim-unfit, bindable-child}
 use Rattle.roles.proofs.bindings.bind_claim.Statement.{statement}
 use Rattle.roles.proofs.bindings.bind_claim.Tie as tie
 

@@ -1,6 +1,6 @@
 -- `bindings::bind_word` meets its contract. Assumes nothing.
 use borrow.Author.Needs.{needs}
-use Rattle.roles.proofs.BindingRecordLaws.{bound-move, bound-getupval, bound-other}
+use Rattle.roles.proofs.BindingStepLaws.{bound-move, bound-getupval, bound-other}
 use Rattle.roles.proofs.bindings.bind_word.Statement.{statement}
 use Rattle.roles.proofs.bindings.bind_word.Tie as tie
 

@@ -6,7 +6,7 @@ use lib.ListN.{length}
 use Rattle.opcodes.specs.Bytes.{u32s}
 use Rattle.roles.specs.BindingSteps.{boundFrom}
 use Rattle.opcodes.proofs.ByteLaws.{getD-u32s}
-use Rattle.roles.proofs.BindingRecordLaws.{bound-none, bound-more}
+use Rattle.roles.proofs.BindingStepLaws.{bound-none, bound-more}
 use Rattle.roles.proofs.bindings.bind_words.Statement.{statement}
 use Rattle.roles.proofs.bindings.bind_words.Tie as tie
 

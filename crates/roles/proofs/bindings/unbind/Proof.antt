@@ -4,8 +4,8 @@ use native.Mathlib.Omega.{arith}
 use mathlib.Core.Path.{_≡_, refl, _∙_}
 use lib.ListN.{length, replicate}
 use Rattle.opcodes.specs.Bytes.{overwrite}
-use Rattle.roles.specs.Bindings.{unbound, bindingRecords}
-use Rattle.roles.proofs.BindingRecordLaws.{unbound-none, unbound-next}
+use Rattle.chunk.specs.Bindings.{unbound, bindingRecords}
+use Rattle.chunk.proofs.BindingRecordLaws.{unbound-none, unbound-next}
 use Rattle.roles.proofs.bindings.unbind.Statement.{statement}
 use Rattle.roles.proofs.bindings.unbind.Tie as tie
 

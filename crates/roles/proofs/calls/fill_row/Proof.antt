@@ -2,7 +2,7 @@
 use native.Mathlib.Omega.{arith}
 use mathlib.Core.Path.{_∙_, ap}
 use borrow.Author.Needs.{needs}
-use Rattle.roles.specs.Bindings.{writes}
+use Rattle.chunk.specs.Bindings.{writes}
 use Rattle.roles.specs.BindingSteps.{boundIn}
 use Rattle.roles.proofs.RoleFillLaws.{part-length, part-room, part-proto, part-written}
 use Rattle.roles.proofs.calls.fill_row.Statement.{statement}

@@ -4,8 +4,8 @@ use native.Mathlib.Omega.{arith}
 use mathlib.Core.Path.{_≡_, refl}
 use lib.ListN.{length}
 use Rattle.opcodes.specs.Bytes.{u32s}
-use Rattle.roles.specs.Table.{rowBytes, rows as tableRows}
-use Rattle.roles.proofs.TotalLaws.{records-front}
+use Rattle.chunk.specs.Table.{rowBytes, rows as tableRows}
+use Rattle.chunk.proofs.TotalLaws.{records-front}
 use Rattle.roles.proofs.RoleFillLaws.{RoleFill, fill-begins, fill-ends, fill-next, words-of, rows-there, words-there}
 use Rattle.roles.proofs.BindingFillLaws.{RowsBound, few-records, rows-begin, rows-end-bound, rows-next, base-next, binds-from}
 use Rattle.roles.proofs.calls.fill_rows.Statement.{statement}

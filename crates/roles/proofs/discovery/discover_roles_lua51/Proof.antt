@@ -3,9 +3,9 @@ use Prim.Native.Nat.{suc, _-_, _/_}
 use native.Mathlib.Omega.{arith}
 use mathlib.Core.Path.{_≡_, refl, subst⁻¹}
 use lib.ListN.{length}
-use Rattle.roles.specs.Table.{rows}
+use Rattle.chunk.specs.Table.{rows}
 use Rattle.roles.specs.BindingSteps.{BindsFrom}
-use Rattle.roles.proofs.TotalLaws.{records-front}
+use Rattle.chunk.proofs.TotalLaws.{records-front}
 use Rattle.roles.proofs.RolePassLaws.{RolePass, code-of, pass-begins, pass-ends, pass-next, owner-step}
 use Rattle.roles.proofs.BindingPassLaws.{BindPass, bind-begins, bind-ends, bind-next, bindable-here}
 use Rattle.roles.proofs.discovery.discover_roles_lua51.Statement.{statement}

@@ -1,7 +1,7 @@
 -- `discovery::mark` meets its contract. Assumes nothing.
 use mathlib.Core.Path.{refl}
 use borrow.Author.Needs.{needs}
-use Rattle.roles.proofs.RoleRecordLaws.{marked-none, marked-few, marked-all, marked-extra}
+use Rattle.roles.proofs.MarkLaws.{marked-none, marked-few, marked-all, marked-extra}
 use Rattle.roles.proofs.discovery.mark.Statement.{statement}
 use Rattle.roles.proofs.discovery.mark.Tie as tie
 

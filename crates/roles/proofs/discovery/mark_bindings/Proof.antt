@@ -5,8 +5,8 @@ use mathlib.Core.Path.{_≡_, refl, _∙_}
 use lib.ListN.{length}
 use Rattle.opcodes.specs.Bytes.{overwrite}
 use Rattle.opcodes.specs.Lists.{tabulate}
-use Rattle.roles.specs.Roles.{ClosureBinding, roleBytes, recordsOf}
-use Rattle.roles.proofs.RoleRecordLaws.{records-none, binding-next}
+use Rattle.chunk.specs.Roles.{ClosureBinding, roleBytes, recordsOf}
+use Rattle.chunk.proofs.RoleRecordLaws.{records-none, binding-next}
 use Rattle.roles.proofs.discovery.mark_bindings.Statement.{statement}
 use Rattle.roles.proofs.discovery.mark_bindings.Tie as tie
 

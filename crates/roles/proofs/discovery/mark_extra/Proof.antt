@@ -5,9 +5,9 @@ use mathlib.Core.Path.{refl}
 use mathlib.Core.List.{[], _∷_}
 use lib.Seq.{take-all}
 use borrow.Author.Needs.{needs}
-use Rattle.roles.specs.Roles.{SetlistExtra}
+use Rattle.chunk.specs.Roles.{SetlistExtra}
 use Rattle.roles.specs.Contracts.{claimedRoles}
-use Rattle.roles.proofs.RoleRecordLaws.{records-none}
+use Rattle.chunk.proofs.RoleRecordLaws.{records-none}
 use Rattle.roles.proofs.discovery.mark_extra.Statement.{statement}
 use Rattle.roles.proofs.discovery.mark_extra.Tie as tie
 

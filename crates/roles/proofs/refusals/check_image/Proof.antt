@@ -1,7 +1,7 @@
 -- `refusals::check_image` meets its contract. Assumes nothing.
 use native.Mathlib.Omega.{arith}
 use borrow.Author.Needs.{needs}
-use Rattle.roles.specs.Refusals.{refuse}
+use Rattle.chunk.specs.Refusals.{refuse}
 use Rattle.roles.specs.Contracts.{refusedOf, givenRefusal}
 use Rattle.roles.proofs.ImageCheckLaws as laws
 use Rattle.roles.proofs.refusals.check_image.Statement.{statement}

@@ -1,6 +1,6 @@
 -- `refusals::check_roles` meets its contract. Assumes nothing.
 use borrow.Author.Needs.{needs}
-use Rattle.roles.specs.Refusals.{refuse}
+use Rattle.chunk.specs.Refusals.{refuse}
 use Rattle.roles.specs.Contracts.{refusedOf, givenRefusal}
 use Rattle.roles.proofs.ImageCheckLaws.{bad-image, too-short, fits-roles}
 use Rattle.roles.proofs.refusals.check_roles.Statement.{statement}

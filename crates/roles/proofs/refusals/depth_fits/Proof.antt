@@ -1,8 +1,8 @@
 -- `refusals::depth_fits` meets its contract. Assumes nothing.
 use borrow.Author.Needs.{needs}
 use borrow.Author.Tests.{le-leb, lt-leb}
-use Rattle.roles.specs.Table.{rowAt}
-use Rattle.roles.specs.Refusals.{depthFits}
+use Rattle.chunk.specs.Table.{rowAt}
+use Rattle.chunk.specs.Refusals.{depthFits}
 use Rattle.roles.proofs.refusals.depth_fits.Statement.{statement}
 use Rattle.roles.proofs.refusals.depth_fits.Tie as tie
 

@@ -3,8 +3,8 @@ use Prim.Native.Nat.{_-_, _/_}
 use native.Mathlib.Omega.{arith}
 use mathlib.Core.Path.{_≡_, refl}
 use lib.ListN.{length}
-use Rattle.roles.specs.Table.{rowBytes}
-use Rattle.roles.proofs.TotalLaws.{TotalPass, total-begins, total-ends, total-next}
+use Rattle.chunk.specs.Table.{rowBytes}
+use Rattle.roles.proofs.CountLaws.{TotalPass, total-begins, total-ends, total-next}
 use Rattle.roles.proofs.refusals.field_total.Statement.{statement}
 use Rattle.roles.proofs.refusals.field_total.Tie as tie
 

@@ -1,8 +1,8 @@
 -- `refusals::fields_fit` meets its contract. Assumes nothing.
 use borrow.Author.Needs.{needs}
 use borrow.Author.Tests.{le-leb, lt-leb}
-use Rattle.roles.specs.Table.{rowAt}
-use Rattle.roles.specs.Refusals.{fieldsFit}
+use Rattle.chunk.specs.Table.{rowAt}
+use Rattle.chunk.specs.Refusals.{fieldsFit}
 use Rattle.roles.proofs.refusals.fields_fit.Statement.{statement}
 use Rattle.roles.proofs.refusals.fields_fit.Tie as tie
 

@@ -1,7 +1,7 @@
 -- `role::write_role` meets its contract. Assumes nothing.
 use mathlib.Core.Path.{_∙_}
 use borrow.Author.Needs.{needs}
-use Rattle.roles.proofs.RoleRecordLaws.{one-record}
+use Rattle.roles.proofs.MarkLaws.{one-record}
 use Rattle.roles.proofs.role.write_role.Statement.{statement}
 use Rattle.roles.proofs.role.write_role.Tie as tie
 

@@ -3,7 +3,7 @@ use Prim.Native.Nat.{ℕ, _-_, _/_, _<_}
 use native.Mathlib.Omega.{arith}
 use mathlib.Core.Path.{_∙_}
 use lib.ListN.{length}
-use Rattle.roles.specs.Table.{rowBytes}
+use Rattle.chunk.specs.Table.{rowBytes}
 use Rattle.roles.proofs.SearchLaws.{find-none, find-few, find-end, find-found, find-next, find-deeper}
 use borrow.Fn.PlainCycle.{Measures, is, falls, and}
 use Rattle.roles.proofs.table.find_child.Reads as reads

@@ -3,7 +3,7 @@ use Prim.Native.Nat.{_+_, _-_, _*_}
 use native.Mathlib.Omega.{arith}
 use mathlib.Core.Path.{_∙_}
 use borrow.Author.Needs.{needs}
-use Rattle.roles.specs.Table.{rowBytes}
+use Rattle.chunk.specs.Table.{rowBytes}
 use Rattle.opcodes.proofs.PartLaws.{u32At-part}
 use Rattle.roles.proofs.table.field.Statement.{statement}
 use Rattle.roles.proofs.table.field.Tie as tie

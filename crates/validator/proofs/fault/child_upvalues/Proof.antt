@@ -2,8 +2,8 @@
 use native.Mathlib.Omega.{arith}
 use mathlib.Core.Path.{sym, _∙_}
 use borrow.Author.Needs.{needs}
+use Rattle.chunk.specs.Table.{protoOf}
 use Rattle.roles.specs.Contracts.{protoIn}
-use Rattle.roles.specs.Table.{protoOf}
 use Rattle.validator.proofs.FaultLaws.{child-found, child-missed}
 use Rattle.validator.proofs.fault.child_upvalues.Statement.{statement}
 use Rattle.validator.proofs.fault.child_upvalues.Tie as tie

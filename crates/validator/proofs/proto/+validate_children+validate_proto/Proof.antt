@@ -5,7 +5,7 @@ use mathlib.Core.Path.{refl, sym, _∙_}
 use lib.ListN.{length}
 use borrow.Author.Needs.{needs}
 use borrow.Fn.PlainCycle.{Measures, is, falls, and}
-use Rattle.roles.specs.Table.{rowBytes}
+use Rattle.chunk.specs.Table.{rowBytes}
 use Rattle.validator.proofs.CycleLaws.{ChildPass, same-row, next-row, next-ready, below-walked, tested-row, tested-ready, stopped, child-stopped, rows-fall, child-passed}
 use Rattle.validator.proofs.ReadyLaws.{few-rows, room}
 use Rattle.validator.proofs.RowLaws.{more, no-more, part-ended}

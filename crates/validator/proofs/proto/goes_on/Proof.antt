@@ -1,7 +1,7 @@
 -- `goes_on` meets its contract: by its three tests. Assumes nothing.
 use native.Mathlib.Omega.{arith}
 use borrow.Author.Tests.{lt-ltb, le-ltb}
-use Rattle.roles.specs.Table.{rowAt}
+use Rattle.chunk.specs.Table.{rowAt}
 use Rattle.validator.specs.Steps.{goesOn}
 use Rattle.validator.proofs.proto.goes_on.Statement.{statement}
 use Rattle.validator.proofs.proto.goes_on.Tie as tie

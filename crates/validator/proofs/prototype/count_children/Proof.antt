@@ -3,7 +3,7 @@ use Prim.Native.Nat.{_-_, _/_}
 use native.Mathlib.Omega.{arith}
 use mathlib.Core.Path.{_≡_, refl}
 use lib.ListN.{length}
-use Rattle.roles.specs.Table.{rowBytes}
+use Rattle.chunk.specs.Table.{rowBytes}
 use Rattle.validator.proofs.ChildCountLaws.{Counted, count-begins, count-ends, count-stops, count-next}
 use Rattle.validator.proofs.prototype.count_children.Statement.{statement}
 use Rattle.validator.proofs.prototype.count_children.Tie as tie

@@ -1,7 +1,7 @@
 -- `Lua51PhysicalRole::index` meets its contract. Assumes nothing.
 use borrow.Author.Needs.{needs}
 use Rattle.opcodes.specs.Bytes.{i32Bits}
-use Rattle.roles.specs.Roles.{roleFields}
+use Rattle.chunk.specs.Roles.{roleFields}
 use Rattle.roles.specs.Contracts.{indexField}
 use Rattle.roles.proofs.role.Lua51PhysicalRole.index.Statement.{statement}
 use Rattle.roles.proofs.role.Lua51PhysicalRole.index.Tie as tie

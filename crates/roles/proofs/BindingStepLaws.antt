@@ -1,54 +1,26 @@
--- The records of bindings as bytes: one record, several after one another, and those that binding words set. Assumes nothing.
+-- The records of bindings that binding words set in a buffer: one, several, and those of an owner. Assumes nothing.
 use Prim.Native.Nat.{ℕ, zero, suc, _+_, _*_, _%_, _≤_, _<_}
 use native.Mathlib.Nat.{zero-add}
 use native.Mathlib.Numerals.{add-one}
 use native.Mathlib.Omega.{arith}
 use mathlib.Core.Path.{_≡_, refl, sym, _∙_, ap, ap₂, subst}
 use mathlib.Core.Logic.{_⊎_, inl, inr}
-use mathlib.Core.List.{List, [], _∷_, _++_, flatMap, foldl}
-use lib.ListN.{length, getD, take, drop, replicate, length-replicate, replicate-append-replicate, length-drop}
+use mathlib.Core.List.{List, [], _∷_, _++_, foldl}
+use lib.ListN.{length, getD, take, drop, length-drop}
 use lib.Seq.{length-take-le}
 use Rattle.opcodes.specs.Lists.{only}
-use Rattle.opcodes.specs.Bytes.{i32Bits, i32Record, u32Record, overwrite}
+use Rattle.opcodes.specs.Bytes.{i32Bits, u32Record, overwrite}
 use Rattle.opcodes.specs.Words.{decoded, MOVE, GETUPVAL}
 use Rattle.opcodes.specs.declared.RawInstruction51.{RawInstruction51}
-use Rattle.roles.specs.Bindings.{Binding, unbound, bindingIndex, bindingOf, bindingFields, bindingBytes, bindingRecords}
+use Rattle.chunk.specs.Bindings.{Binding, bindingIndex, bindingOf, bindingBytes, bindingRecords}
 use Rattle.roles.specs.BindingSteps.{setRecord, boundBy, boundFrom, boundClaim, Bindable}
 use Rattle.roles.specs.declared.discovery.Companions.{Companions}
 use Rattle.roles.specs.declared.discovery.Companions.the-variants.{None, Bindings, Extra}
-use Rattle.opcodes.proofs.ListLaws.{length-flatMap, foldl-next}
-use Rattle.opcodes.proofs.ByteLaws.{length-i32Record, i32Record-append, i32Record-next, length-overwrite, overwrite-none, overwrite-unfit}
+use Rattle.opcodes.proofs.ListLaws.{foldl-next}
+use Rattle.opcodes.proofs.ByteLaws.{length-overwrite, overwrite-unfit}
 use Rattle.opcodes.proofs.PartLaws.{paste-part, by-part}
+use Rattle.chunk.proofs.BindingRecordLaws.{one-binding, length-bindings}
 use Rattle.roles.proofs.OwnerLaws.{has-opcode, has-other}
-
--- a record by the bits of its fields
-one-binding : (b : Binding) → bindingRecords (b ∷ []) ≡ u32Record (b .instack ∷ b .idx ∷ i32Bits (b .pc) ∷ [])
-unfolding bindingRecords i32Record flatMap bindingFields i32Bits
-one-binding b = refl
-
-pub length-bindings : (bs : List Binding) → length (bindingRecords bs) ≡ bindingBytes * length bs
-unfolding bindingRecords bindingFields
-length-bindings bs = length-i32Record (flatMap bindingFields bs) ∙ omega (arith, length-flatMap bindingFields 3 (λ b. refl) bs)
-
-pub bindings-append : (bs cs : List Binding) → bindingRecords (bs ++ cs) ≡ bindingRecords bs ++ bindingRecords cs
-unfolding bindingRecords
-bindings-append bs cs = i32Record-append bindingFields bs cs
-
--- ---- records of upvalues that nothing binds
-
-pub unbound-none : (old : List ℕ) → old ≡ overwrite old 0 (bindingRecords (replicate 0 unbound))
-unfolding bindingRecords i32Record u32Record flatMap
-unbound-none old = sym (overwrite-none old 0)
-
-pub unbound-next : (old m new : List ℕ) (i : ℕ) → bindingBytes * i + bindingBytes ≤ length old → m ≡ overwrite old 0 (bindingRecords (replicate i unbound))
-    → new ≡ overwrite m (bindingBytes * i) (u32Record (0 ∷ 0 ∷ 0xffff_ffff ∷ [])) → new ≡ overwrite old 0 (bindingRecords (replicate (i + 1) unbound))
-unfolding unbound i32Bits bindingRecords
-unbound-next old m new i room e d =
-    let us = replicate i unbound in
-    let size : length (bindingRecords us) ≡ bindingBytes * i = length-bindings us ∙ ap (λ (n : ℕ). bindingBytes * n) (length-replicate i unbound) in
-    i32Record-next bindingFields old m new 0 (bindingBytes * i) us (unbound ∷ []) (omega (arith, size)) (omega (arith, size, length-bindings (unbound ∷ []))) e
-    (d ∙ ap (overwrite m (bindingBytes * i)) (sym (one-binding unbound)))
-    ∙ ap (λ (bs : List Binding). overwrite old 0 (bindingRecords bs)) (replicate-append-replicate i 1 unbound)
 
 -- ---- a binding word
 

@@ -9,10 +9,10 @@ use mathlib.Core.Option.{none}
 use lib.Dec.{leb, leb→le, T}
 use lib.ListN.{length, drop, drop-of-length-le}
 use borrow.Author.Tests.{not-false}
-use Rattle.roles.specs.Table.{rowBytes, fieldAt, rowAt, rows}
-use Rattle.roles.specs.Refusals.{refuse, refuseIf, orElse, depthFits, badDepth, fieldsFit, badField}
+use Rattle.chunk.specs.Table.{rowBytes, fieldAt, rowAt, rows}
+use Rattle.chunk.specs.Refusals.{refuse, refuseIf, orElse, depthFits, badDepth, fieldsFit, badField}
 use Rattle.opcodes.proofs.TestLaws.{T-and}
-use Rattle.roles.proofs.TableLaws.{length-rows, drop-rows}
+use Rattle.chunk.proofs.TableLaws.{length-rows, drop-rows}
 
 -- past the last row
 pub rows-end : (table : List ℕ) (row : ℕ) → length table / rowBytes ≤ row → drop row (rows table) ≡ []

@@ -5,11 +5,11 @@ use mathlib.Core.List.{List, [], _∷_, _++_, flatMap}
 use mathlib.Core.Option.{Option, none}
 use lib.IntN.{ℤ, pos, negsuc}
 use Rattle.opcodes.specs.Bytes.{u32Record}
-use Rattle.roles.specs.Table.{protos}
-use Rattle.roles.specs.Roles.{roles, roleFields}
-use Rattle.roles.specs.Bindings.{bindingFields}
-use Rattle.roles.specs.Refusals.{Refused, refuse}
-use Rattle.roles.specs.Calls.{imageBindings, bindingsRefusal}
+use Rattle.chunk.specs.Table.{protos}
+use Rattle.chunk.specs.Roles.{roles, roleFields}
+use Rattle.chunk.specs.Bindings.{bindingFields}
+use Rattle.chunk.specs.Refusals.{Refused, refuse}
+use Rattle.chunk.specs.Calls.{imageBindings, bindingsRefusal}
 
 -- ---- roles and bindings
 

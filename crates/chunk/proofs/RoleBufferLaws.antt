@@ -1,30 +1,25 @@
--- Reading a role back from a buffer that the roles were written to. Assumes nothing.
-use Prim.Native.Nat.{ℕ, zero, suc, _+_, _-_, _*_, _/_, _≤_, _<_, _^_}
+-- Reading a role's fields back from a buffer that the roles were written to. Assumes nothing.
+use Prim.Native.Nat.{ℕ, zero, suc, _+_, _*_, _≤_, _<_, _^_}
 use native.Mathlib.Omega.{arith}
 use mathlib.Core.Path.{_≡_, refl, sym, _∙_, ap, ap₂}
 use mathlib.Core.Bool.{Bool, true, false}
 use mathlib.Core.List.{List, [], _∷_, map, flatMap}
-use mathlib.Core.Option.{Option, none}
-use lib.Dec.{ltb}
-use borrow.Author.Tests.{lt-ltb, le-ltb, ne-eqb, ltb-true, ltb-false}
-use lib.ListN.{length, getD, take, drop, length-append, length-map, length-take, length-drop, List·getD-map, List·getD-eq-default}
+use lib.ListN.{length, getD, take, drop, length-append, length-map, length-take, length-drop, List·getD-map}
 use lib.IntN.{ℤ, pos, negsuc}
 use Rattle.opcodes.specs.Lists.{All, all-nil, all-cons, only, upFrom}
 use Rattle.opcodes.specs.Bytes.{i32Bits, i32Record, u32Record, u32At, u32s, overwrite}
-use Rattle.roles.specs.Table.{Row, rows, Proto, protoOf, protosOf, protos}
-use Rattle.roles.specs.Roles.{Role, Instruction, ClosureBinding, SetlistExtra, bindingCount, hasExtra, claims, rolesFrom, roles, roleAt, roleFields, roleBytes, recordsOf}
-use Rattle.roles.specs.Refusals.{Refused, wordTotal, rolesRefusal}
-use Rattle.roles.specs.Calls.{filled, rolesAfter}
-use Rattle.roles.specs.Contracts.{ownerField, indexField, roleFrom, roleIn}
+use Rattle.chunk.specs.Table.{Row, rows, Proto, protoOf, protosOf, protos}
+use Rattle.chunk.specs.Roles.{Role, Instruction, ClosureBinding, SetlistExtra, bindingCount, hasExtra, claims, rolesFrom, roles, roleAt, roleFields, recordsOf}
+use Rattle.chunk.specs.Refusals.{wordTotal}
 use Rattle.opcodes.specs.Words.{is, fieldBx, CLOSURE}
 use Rattle.opcodes.proofs.TestLaws.{by-cond}
-use Rattle.opcodes.proofs.AllLaws.{all-getD, all-at, all-append, all-map, all-flatMap, all-imp}
+use Rattle.opcodes.proofs.AllLaws.{all-getD, all-append, all-map, all-flatMap, all-imp}
 use lib.Seq.{length-take-le, take-all, take-length}
 use Rattle.opcodes.proofs.ListLaws.{getD-flatMap, flatMap-index, length-flatMap}
-use Rattle.roles.proofs.RefusalLaws.{ImageKept, roles-kept}
-use Rattle.roles.proofs.TableLaws.{children-most, length-protosOf}
-use Rattle.opcodes.proofs.ByteLaws.{length-u32s, length-overwrite, u32At-record}
-use Rattle.opcodes.proofs.PartLaws.{u32At-part}
+use Rattle.chunk.proofs.RefusalLaws.{ImageKept}
+use Rattle.chunk.proofs.TableLaws.{children-most, length-protosOf}
+use Rattle.opcodes.proofs.ByteLaws.{length-u32s, u32At-record}
+use Rattle.chunk.proofs.RoleRecordLaws.{length-roleFields}
 
 -- ---- a role for each word
 
@@ -67,12 +62,6 @@ index-below ps k pc p h l = flatMap-index roles ps k pc p h (omega (arith, lengt
 abbrev Small : ℤ → Type 0
 Small z = i32Bits z < 2 ^ 32
 
-pub length-roleFields : (r : Role) → length (roleFields r) ≡ 2
-unfolding roleFields
-length-roleFields Instruction = refl
-length-roleFields (ClosureBinding owner index) = refl
-length-roleFields (SetlistExtra owner) = refl
-
 -- field j of record k
 pub role-field : (ps : List Proto) (old : List ℕ) (k j : ℕ) → All Small (flatMap roleFields (flatMap roles ps)) → k < length (flatMap roles ps) → j < 2 → 8 * length (flatMap roles ps) ≤ length old
     → u32At (overwrite old 0 (recordsOf (flatMap roles ps))) (8 * k + 4 * j) ≡ i32Bits (getD (roleFields (getD (flatMap roles ps) k Instruction)) j (pos 0))
@@ -91,7 +80,7 @@ role-field ps old k j small h l fits =
 
 -- ---- every field is an i32, and no owner and no index is -1
 
-abbrev RoleBelow : ℕ → Role → Type 0
+abbrev pub RoleBelow : ℕ → Role → Type 0
 RoleBelow n Instruction = Unit {0}
 RoleBelow n (ClosureBinding owner index) = (owner < n) × (index < n)
 RoleBelow n (SetlistExtra owner) = owner < n
@@ -124,7 +113,7 @@ pub record Limited (n : ℕ) (p : Proto) : Type 0 where
   pub words : length (p .code) ≤ n
   pub children : All (λ k. k ≤ n) (p .children)
 
-proto-roles-below : (n : ℕ) (p : Proto) → Limited n p → All (RoleBelow n) (roles p)
+pub proto-roles-below : (n : ℕ) (p : Proto) → Limited n p → All (RoleBelow n) (roles p)
 unfolding roles
 proto-roles-below n p h = roles-below n p (h .children) 0 [] (p .code) all-nil (omega (arith, h .words))
 
@@ -136,13 +125,6 @@ field-small (SetlistExtra owner) h = all-cons {x = pos owner} (omega arith) (all
 
 pub records-small : (ps : List Proto) → All (Limited (2 ^ 31)) ps → All Small (flatMap roleFields (flatMap roles ps))
 records-small ps h = all-flatMap Small roleFields (all-imp field-small (all-flatMap (RoleBelow (2 ^ 31)) roles (all-imp (proto-roles-below (2 ^ 31)) h)))
-
--- the two fields tell the role
-fields-tell : (r : Role) → RoleBelow (2 ^ 31) r → roleFrom (ownerField r) (indexField r) ≡ r
-unfolding roleFrom ownerField indexField roleFields i32Bits
-fields-tell Instruction h = refl
-fields-tell (ClosureBinding owner index) h = rw (ne-eqb owner 4294967295 (λ e. omega (arith, h .0)), ne-eqb index 4294967295 (λ e. omega (arith, h .1)))
-fields-tell (SetlistExtra owner) h = rw (ne-eqb owner 4294967295 (λ e. omega arith))
 
 -- ---- an accepted image
 
@@ -157,13 +139,13 @@ limited-both n all-nil all-nil = all-nil
 limited-both n (all-cons h hs) (all-cons k ks) = all-cons (record { words = h; children = k }) (limited-both n hs ks)
 
 module _ (table words : List ℕ) (kept : ImageKept table words) where
-  limited : All (Limited (2 ^ 31)) (protos table words)
+  pub limited : All (Limited (2 ^ 31)) (protos table words)
   unfolding protos
   limited =
       limited-both (2 ^ 31) (words-most (2 ^ 31) (rows table) (u32s words) (omega (arith, length-u32s words, kept .word-limit)))
       (children-most (2 ^ 31) (rows table) (u32s words) (all-imp (λ r h. omega (arith, h .upvalues)) (kept .fields)))
 
-  length-protos : length (protos table words) ≡ length (rows table)
+  pub length-protos : length (protos table words) ≡ length (rows table)
   unfolding protos
   length-protos = length-protosOf (rows table) (u32s words)
 
@@ -194,54 +176,6 @@ module _ (table words : List ℕ) (kept : ImageKept table words) where
       ∙ ap (λ (r : Role). i32Bits (getD (roleFields r) j (pos 0))) (role-at ps i pc p there l)
 
   -- the last word of prototype i is one of them
-  last-below : (i : ℕ) (p : Proto) → i < length (protos table words) → (pc : ℕ) → pc < length (getD (protos table words) i p .code) → wordTotal (take i (rows table)) + pc < wordTotal (rows table)
+  pub last-below : (i : ℕ) (p : Proto) → i < length (protos table words) → (pc : ℕ) → pc < length (getD (protos table words) i p .code) → wordTotal (take i (rows table)) + pc < wordTotal (rows table)
   unfolding protos
   last-below i p there pc l = omega (arith, words-before (rows table) (u32s words) i enough, index-below (protosOf (rows table) (u32s words)) i pc p there l, length-all-roles)
-
-  -- a role looked up in the part of the buffer that has a prototype's records is the word's role: for every pc, past the last word too
-  module _ (old : List ℕ) (i : ℕ) (p : Proto) (fits : 8 * wordTotal (rows table) ≤ length old) (h : i < length (rows table)) where
-    abbrev q : Proto
-    q = getD (protos table words) i p
-
-    abbrev records : List ℕ
-    records = take (8 * length (q .code)) (drop (8 * wordTotal (take i (rows table))) (overwrite old 0 (recordsOf (flatMap roles (protos table words)))))
-
-    looked-up-past : (pc : ℕ) → length (q .code) ≤ pc → roleIn records pc ≡ roleAt q pc
-    unfolding roleIn roleAt
-    looked-up-past pc l =
-        let none : length records / 8 ≤ pc = omega (arith, length-take (8 * length (q .code)) (drop (8 * wordTotal (take i (rows table))) (overwrite old 0 (recordsOf (flatMap roles (protos table words)))))) in
-        (rw (le-ltb pc (length records / 8) none)) ∙ sym (List·getD-eq-default (roles q) Instruction (omega (arith, length-roles q)))
-
-    looked-up-word : (pc : ℕ) → pc < length (q .code) → roleIn records pc ≡ roleAt q pc
-    unfolding roleIn roleAt ownerField indexField
-    looked-up-word pc l =
-        let first = wordTotal (take i (rows table)) in
-        let buffer = overwrite old 0 (recordsOf (flatMap roles (protos table words))) in
-        let n = length (q .code) in
-        let there : i < length (protos table words) = omega (arith, length-protos) in
-        let last : first + (n - 1) < wordTotal (rows table) = last-below i p there (n - 1) (omega arith) in
-        let size : length records ≡ 8 * n = length-take-le (8 * n) (drop (8 * first) buffer) (omega (arith, length-drop (8 * first) buffer, length-overwrite old 0 (recordsOf (flatMap roles (protos table words))))) in
-        let inside : pc < length records / 8 = omega arith in
-        let owner : u32At records (8 * pc) ≡ ownerField (roleAt q pc) =
-        u32At-part buffer (8 * first) (8 * n) (8 * pc) (omega arith) ∙ ap (u32At buffer) (omega arith) ∙ role-in-buffer old i pc 0 p fits h l (omega arith) in
-        let index : u32At records (8 * pc + 4) ≡ indexField (roleAt q pc) =
-        u32At-part buffer (8 * first) (8 * n) (8 * pc + 4) (omega arith) ∙ ap (u32At buffer) (omega arith) ∙ role-in-buffer old i pc 1 p fits h l (omega arith) in
-        let small : RoleBelow (2 ^ 31) (roleAt q pc) = all-getD pc Instruction tt (proto-roles-below (2 ^ 31) q (all-at i p there limited)) in
-        (rw (lt-ltb pc (length records / 8) inside, owner, index)) ∙ fields-tell (roleAt q pc) small
-
-    looked-up : (pc : ℕ) → roleIn records pc ≡ roleAt q pc
-    looked-up pc = go (ltb pc (length (q .code))) refl
-      where
-        go : (b : Bool) → ltb pc (length (q .code)) ≡ b → roleIn records pc ≡ roleAt q pc
-        go true e = looked-up-word pc (ltb-true pc (length (q .code)) e)
-        go false e = looked-up-past pc (ltb-false pc (length (q .code)) e)
-
--- in a buffer that an accepted call has left, a role looked up in a prototype's part of it is the word's role
-pub role-looked-up : (table words old : List ℕ) (i : ℕ) (p : Proto) → rolesRefusal table words (length old) ≡ none → i < length (rows table) → (pc : ℕ)
-    → roleIn (take (roleBytes * length (getD (protos table words) i p .code)) (drop (roleBytes * wordTotal (take i (rows table))) (rolesAfter table words old))) pc
-    ≡ roleAt (getD (protos table words) i p) pc
-unfolding rolesAfter filled
-role-looked-up table words old i p e h pc =
-    let k = roles-kept table words (length old) e in
-    ap (λ (o : Option Refused). roleIn (take (roleBytes * length (getD (protos table words) i p .code)) (drop (roleBytes * wordTotal (take i (rows table))) (filled o old (recordsOf (flatMap roles (protos table words)))))) pc) e
-    ∙ looked-up table words (k .image) old i p (k .fits) h pc

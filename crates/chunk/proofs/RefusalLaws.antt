@@ -9,9 +9,9 @@ use lib.Dec.{T, eqb, ltb, leb, leb→le, eqb→eq}
 use lib.ListN.{length}
 use borrow.Author.Tests.{eqb-false, ltb-false, not-false}
 use Rattle.opcodes.specs.Lists.{All, all-nil, all-cons}
-use Rattle.roles.specs.Table.{Row, rowBytes, rows}
-use Rattle.roles.specs.Refusals.{Refused, refuse, refuseIf, orElse, depthFits, badDepth, fieldsFit, badField, wordTotal, imageRefusal, rolesRefusal}
-use Rattle.roles.specs.Roles.{roleBytes}
+use Rattle.chunk.specs.Table.{Row, rowBytes, rows}
+use Rattle.chunk.specs.Refusals.{Refused, refuse, refuseIf, orElse, depthFits, badDepth, fieldsFit, badField, wordTotal, imageRefusal, rolesRefusal}
+use Rattle.chunk.specs.Roles.{roleBytes}
 use Rattle.opcodes.proofs.TestLaws.{T-and, or-false}
 
 -- none of two, and none of one

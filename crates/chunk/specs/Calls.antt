@@ -5,10 +5,10 @@ use mathlib.Core.List.{List, flatMap}
 use mathlib.Core.Option.{Option, none, some}
 use lib.ListN.{length}
 use Rattle.opcodes.specs.Bytes.{u32s, overwrite}
-use Rattle.roles.specs.Table.{rows, protos}
-use Rattle.roles.specs.Roles.{roles, recordsOf}
-use Rattle.roles.specs.Bindings.{Binding, bindings, bindingBytes, bindingRecords}
-use Rattle.roles.specs.Refusals.{Refused, orElse, rolesRefusal, tooShort, wordTotal}
+use Rattle.chunk.specs.Table.{rows, protos}
+use Rattle.chunk.specs.Roles.{roles, recordsOf}
+use Rattle.chunk.specs.Bindings.{Binding, bindings, bindingBytes, bindingRecords}
+use Rattle.chunk.specs.Refusals.{Refused, orElse, rolesRefusal, tooShort, wordTotal}
 
 -- a call's answer: a refusal, or its result
 pub data Answer (A : Type 0) : Type 0 where

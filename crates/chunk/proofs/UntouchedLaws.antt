@@ -8,8 +8,8 @@ use mathlib.Core.List.{List}
 use mathlib.Core.Option.{Option, none, some}
 use lib.Dec.{ltb}
 use lib.ListN.{length}
-use Rattle.roles.specs.Refusals.{Refused, refuse, refuseIf, orElse, tooShort, rolesRefusal}
-use Rattle.roles.specs.Calls.{answer, refused, filled, rolesAnswer, rolesAfter, bindingsRefusal, bindingsAnswer, bindingsAfter}
+use Rattle.chunk.specs.Refusals.{Refused, refuse, refuseIf, orElse, tooShort, rolesRefusal}
+use Rattle.chunk.specs.Calls.{answer, refused, filled, rolesAnswer, rolesAfter, bindingsRefusal, bindingsAnswer, bindingsAfter}
 
 -- a refused call leaves the buffer that its refusals guard
 pub refused-leaves : {A : Type 0} (o : Option Refused) (a : A) (r : Refused) (old new : List ℕ) → answer o a ≡ refused r → filled o old new ≡ old

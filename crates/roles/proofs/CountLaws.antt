@@ -1,96 +1,40 @@
--- Sums of a field over rows: the words and the binding records of the rows before one, and of those between two. Assumes nothing.
+-- Sums as the code counts them: a field of all rows, and the binding records of the rows between two. Assumes nothing.
 use Prim.Native.Nat.{ℕ, zero, suc, _+_, _-_, _*_, _/_, _%_, _^_, _≤_, _<_}
-use native.Mathlib.Nat.{mul-suc}
 use native.Mathlib.Omega.{arith}
 use mathlib.Core.Path.{_≡_, refl, sym, _∙_, ap, ap₂}
-use mathlib.Core.List.{List, [], _∷_, _++_, map, map-append}
-use lib.ListN.{length, getD, take, drop}
+use mathlib.Core.List.{List, [], _∷_, map}
+use lib.ListN.{length, take, drop}
 use lib.Seq.{take-add, drop-drop}
-use Rattle.opcodes.specs.Lists.{All, all-nil, all-cons, upFrom, tabulate, total}
-use Rattle.roles.specs.Table.{Row, rowBytes, fieldAt, rowAt, rows}
-use Rattle.roles.specs.Refusals.{wordTotal}
-use Rattle.roles.specs.Bindings.{bindingTotal, firstBinding}
+use Rattle.opcodes.specs.Lists.{upFrom, tabulate, total}
+use Rattle.chunk.specs.Table.{Row, rowBytes, fieldAt, rowAt, rows}
+use Rattle.chunk.specs.Refusals.{wordTotal}
+use Rattle.chunk.specs.Bindings.{bindingTotal, firstBinding}
 use Rattle.roles.specs.Contracts.{fieldTotal, recordsBetween}
 use Rattle.opcodes.proofs.ListLaws.{tabulate-next}
-use Rattle.roles.proofs.TableLaws.{length-rows, getD-rows, drop-rows}
+use Rattle.chunk.proofs.TableLaws.{drop-rows}
+use Rattle.chunk.proofs.TotalLaws.{total-append, sum-append}
 
-total-append : (ms ns : List ℕ) → total (ms ++ ns) ≡ total ms + total ns
-total-append [] ns = omega arith
-total-append (m ∷ ms) ns = omega (arith, total-append ms ns)
-
--- ---- a field of rows
+-- ---- a field of all rows
 
 module _ (get : Row → ℕ) where
-  abbrev sum : List Row → ℕ
-  sum rs = total (map get rs)
-
-  -- that of some of the rows is no more than that of all
-  sum-front : (rs : List Row) (k : ℕ) → sum (take k rs) ≤ sum rs
-  sum-front rs zero = omega arith
-  sum-front [] (suc k) = omega arith
-  sum-front (r ∷ rs) (suc k) = omega (arith, sum-front rs k)
-
-  -- one row more
-  sum-next : (rs : List Row) (k : ℕ) (d : Row) → k < length rs → sum (take (suc k) rs) ≡ sum (take k rs) + get (getD rs k d)
-  sum-next [] k d h = absurd (omega arith)
-  sum-next (r ∷ rs) zero d h = omega arith
-  sum-next (r ∷ rs) (suc k) d h = omega (arith, sum-next rs k d (omega arith))
-
-  -- of a table
-  sum-row : (table : List ℕ) (row : ℕ) → row < length table / rowBytes → sum (take (suc row) (rows table)) ≡ sum (take row (rows table)) + get (rowAt table row)
-  sum-row table row there =
-      sum-next (rows table) row (rowAt table row) (omega (arith, length-rows table))
-      ∙ ap (λ (r : Row). sum (take row (rows table)) + get r) (getD-rows table row (rowAt table row) there)
-
-  sum-append : (rs ss : List Row) → sum (rs ++ ss) ≡ sum rs + sum ss
-  sum-append rs ss = ap total (map-append get rs ss) ∙ total-append (map get rs) (map get ss)
-
-  sum-most : (limit : ℕ) {rs : List Row} → All (λ (r : Row). get r ≤ limit) rs → sum rs ≤ limit * length rs
-  sum-most limit all-nil = omega arith
-  sum-most limit (all-cons {x = r} {xs = rs} h hs) = omega (arith, sum-most limit hs, mul-suc limit (length rs))
-
   -- it is that of the bytes
-  sum-values : (f : ℕ → Row) (g : ℕ → ℕ) → ((i : ℕ) → get (f i) ≡ g i) → (i n : ℕ) → sum (map f (upFrom i n)) ≡ total (map g (upFrom i n))
+  sum-values : (f : ℕ → Row) (g : ℕ → ℕ) → ((i : ℕ) → get (f i) ≡ g i) → (i n : ℕ) → total (map get (map f (upFrom i n))) ≡ total (map g (upFrom i n))
   sum-values f g e i zero = refl
   sum-values f g e i (suc n) = ap₂ (λ (a b : ℕ). a + b) (e i) (sum-values f g e (suc i) n)
 
-  sum-fields : (table : List ℕ) (k : ℕ) → ((i : ℕ) → get (rowAt table i) ≡ fieldAt table i k) → sum (rows table) ≡ fieldTotal table k
+  sum-fields : (table : List ℕ) (k : ℕ) → ((i : ℕ) → get (rowAt table i) ≡ fieldAt table i k) → total (map get (rows table)) ≡ fieldTotal table k
   unfolding rows fieldTotal
   sum-fields table k e = sum-values (rowAt table) (λ i. fieldAt table i k) e 0 (length table / rowBytes)
-
--- ---- words
-
-pub words-front : (rs : List Row) (k : ℕ) → wordTotal (take k rs) ≤ wordTotal rs
-unfolding wordTotal
-words-front = sum-front (λ r. r .words)
-
-pub words-next : (table : List ℕ) (row : ℕ) → row < length table / rowBytes → wordTotal (take (suc row) (rows table)) ≡ wordTotal (take row (rows table)) + rowAt table row .words
-unfolding wordTotal
-words-next = sum-row (λ r. r .words)
 
 pub word-fields : (table : List ℕ) → wordTotal (rows table) ≡ fieldTotal table 1
 unfolding wordTotal rowAt
 word-fields table = sum-fields (λ r. r .words) table 1 (λ i. refl)
 
--- ---- binding records
-
-pub records-front : (rs : List Row) (k : ℕ) → firstBinding rs k ≤ bindingTotal rs
-unfolding firstBinding bindingTotal
-records-front = sum-front (λ r. r .upvalues)
-
-pub records-next : (table : List ℕ) (row : ℕ) → row < length table / rowBytes → firstBinding (rows table) (suc row) ≡ firstBinding (rows table) row + rowAt table row .upvalues
-unfolding firstBinding bindingTotal
-records-next = sum-row (λ r. r .upvalues)
-
-pub records-most : (limit : ℕ) {rs : List Row} → All (λ (r : Row). r .upvalues ≤ limit) rs → bindingTotal rs ≤ limit * length rs
-unfolding bindingTotal
-records-most limit h = sum-most (λ r. r .upvalues) limit h
-
 pub record-fields : (table : List ℕ) → bindingTotal (rows table) ≡ fieldTotal table 3
 unfolding bindingTotal rowAt
 record-fields table = sum-fields (λ r. r .upvalues) table 3 (λ i. refl)
 
--- ---- those of the rows between two
+-- ---- the binding records of the rows between two
 
 module _ (table : List ℕ) where
   pub none-between : (i j : ℕ) → j ≤ i → recordsBetween table i j ≡ 0

@@ -10,7 +10,7 @@ use lib.ListN.{length, getD, drop, getElem?, length-map}
 use lib.Seq.{drop-cons}
 use borrow.Author.Tests.{lt-ltb, le-ltb, eq-eqb, ne-eqb}
 use Rattle.opcodes.specs.Lists.{All, all-nil, all-cons, takeWhile, goOnIf}
-use Rattle.roles.specs.Table.{Row, rowBytes, rowAt, rows, below, children, childAt, Proto, protoOf, protosOf}
+use Rattle.chunk.specs.Table.{Row, rowBytes, rowAt, rows, below, children, childAt, Proto, protoOf, protosOf}
 use Rattle.opcodes.proofs.ListLaws.{length-tabulate, getD-tabulate}
 use Rattle.opcodes.proofs.AllLaws.{all-select, all-takeWhile, all-map}
 

@@ -4,12 +4,12 @@ use mathlib.Core.List.{map, flatMap}
 use Rattle.opcodes.specs.Lists.{only}
 use Rattle.opcodes.specs.Bytes.{u32Bytes, u32Record, u32s, u32At}
 use Rattle.opcodes.specs.Words.{B, C, is}
-use Rattle.roles.specs.Table.{rowAt, rows, below, children, childAt, protoOf, protosOf, protos}
-use Rattle.roles.specs.Roles.{bindingCount, hasExtra, claims, rolesFrom, roles, roleAt, wordAt, executableAt, existing, bindingWords, roleFields}
-use Rattle.roles.specs.Bindings.{unbound, bindingIndex, bindingOf, writeOf, writesAt, writes, bindingTotal, firstBinding, setBinding, bindRows, bindings, bindingFields}
-use Rattle.roles.specs.Refusals.{refuse, refuseIf, orElse, depthFits, badDepth, fieldsFit, badField, wordTotal, imageRefusal, rolesRefusal, tooShort}
-use Rattle.roles.specs.Calls.{imageBindings, bindingsRefusal}
-use Rattle.roles.specs.Examples.{rolesOf, bindingsOf, examples, refusalOf, refusals}
+use Rattle.chunk.specs.Table.{rowAt, rows, below, children, childAt, protoOf, protosOf, protos}
+use Rattle.chunk.specs.Roles.{bindingCount, hasExtra, claims, rolesFrom, roles, roleAt, wordAt, executableAt, existing, bindingWords, roleFields}
+use Rattle.chunk.specs.Bindings.{unbound, bindingIndex, bindingOf, writeOf, writesAt, writes, bindingTotal, firstBinding, setBinding, bindRows, bindings, bindingFields}
+use Rattle.chunk.specs.Refusals.{refuse, refuseIf, orElse, depthFits, badDepth, fieldsFit, badField, wordTotal, imageRefusal, rolesRefusal, tooShort}
+use Rattle.chunk.specs.Calls.{imageBindings, bindingsRefusal}
+use Rattle.chunk.specs.Examples.{rolesOf, bindingsOf, examples, refusalOf, refusals}
 
 pub roles-hold : map rolesOf examples ≡ map (λ e. e .roles) examples
 unfolding examples rolesOf only u32Bytes u32Record u32s u32At B C is rowAt rows below children protoOf protosOf protos bindingCount hasExtra claims rolesFrom roles roleFields flatMap

@@ -6,8 +6,8 @@ use mathlib.Core.Option.{Option, none, some}
 use lib.Dec.{eqb, ltb, leb}
 use lib.ListN.{length}
 use Rattle.opcodes.specs.Lists.{total}
-use Rattle.roles.specs.Table.{Row, rowBytes, rows}
-use Rattle.roles.specs.Roles.{roleBytes}
+use Rattle.chunk.specs.Table.{Row, rowBytes, rows}
+use Rattle.chunk.specs.Roles.{roleBytes}
 
 -- a refusal's number and figure: "the first guilty row for 4 and 5, the records needed for 8, otherwise 0"; the line for packcheck's 9 and 10
 pub record Refused : Type 0 where

@@ -7,8 +7,8 @@ use lib.IntN.{ℤ, pos, negsuc}
 use Rattle.opcodes.specs.Lists.{only, upFrom, total}
 use Rattle.opcodes.specs.Bytes.{i32Record}
 use Rattle.opcodes.specs.Words.{is, operand, B, fieldBx, MOVE, GETUPVAL}
-use Rattle.roles.specs.Table.{Row, Proto, childAt, protoOf}
-use Rattle.roles.specs.Roles.{wordAt, bindingWords}
+use Rattle.chunk.specs.Table.{Row, Proto, childAt, protoOf}
+use Rattle.chunk.specs.Roles.{wordAt, bindingWords}
 
 -- "instack, index, place of the word in the parent"
 pub record Binding : Type 0 where

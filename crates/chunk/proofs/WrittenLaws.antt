@@ -8,16 +8,17 @@ use lib.IntN.{ℤ}
 use lib.ListN.{length, drop}
 use borrow.Author.Tests.{ltb-false}
 use Rattle.opcodes.specs.Bytes.{i32Record}
-use Rattle.roles.specs.Table.{rows, protos}
-use Rattle.roles.specs.Roles.{roles, roleFields, recordsOf}
-use Rattle.roles.specs.Bindings.{bindingFields, bindingBytes, bindingRecords}
-use Rattle.roles.specs.Refusals.{Refused, tooShort, rolesRefusal, wordTotal}
-use Rattle.roles.specs.Calls.{answer, accepted, filled, rolesAfter, imageBindings, bindingsRefusal, bindingsAfter}
+use Rattle.chunk.specs.Table.{rows, protos}
+use Rattle.chunk.specs.Roles.{roles, roleFields, recordsOf}
+use Rattle.chunk.specs.Bindings.{bindingFields, bindingBytes, bindingRecords}
+use Rattle.chunk.specs.Refusals.{Refused, tooShort, rolesRefusal, wordTotal}
+use Rattle.chunk.specs.Calls.{answer, accepted, filled, rolesAfter, imageBindings, bindingsRefusal, bindingsAfter}
 use Rattle.opcodes.proofs.ByteLaws.{length-i32Record, overwrite-front}
 use Rattle.opcodes.proofs.ListLaws.{length-flatMap}
-use Rattle.roles.proofs.RefusalLaws.{orElse-none, refuseIf-none, roles-kept}
-use Rattle.roles.proofs.RoleBufferLaws.{length-roleFields, length-all-roles}
-use Rattle.roles.proofs.BindingRecordLaws.{length-bindings}
+use Rattle.chunk.proofs.RefusalLaws.{orElse-none, refuseIf-none, roles-kept}
+use Rattle.chunk.proofs.RoleRecordLaws.{length-roleFields}
+use Rattle.chunk.proofs.RoleBufferLaws.{length-all-roles}
+use Rattle.chunk.proofs.BindingRecordLaws.{length-bindings}
 
 -- an accepted answer has no refusal, and is the result
 pub accepted-none : {A : Type 0} (o : Option Refused) (a c : A) → answer o a ≡ accepted c → o ≡ none

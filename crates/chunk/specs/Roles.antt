@@ -8,7 +8,7 @@ use lib.IntN.{ℤ, pos, negsuc}
 use Rattle.opcodes.specs.Lists.{only, tabulate}
 use Rattle.opcodes.specs.Bytes.{i32Record}
 use Rattle.opcodes.specs.Words.{is, fieldBx, operand, C, CLOSURE, SETLIST}
-use Rattle.roles.specs.Table.{Proto}
+use Rattle.chunk.specs.Table.{Proto}
 
 -- luad's `Lua51PhysicalRole`. Instruction: executable. The other two are companions: of a CLOSURE, with its pc and the upvalue's index,
 -- and of a SETLIST, with its pc

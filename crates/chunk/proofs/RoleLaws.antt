@@ -1,18 +1,18 @@
--- Laws of roles: what an executable word is, and that the word after one and its companions is executable. Assumes nothing.
+-- Laws of roles: what an executable word is, that the word after one and its companions is executable, and what is claimed. Assumes nothing.
 use Prim.Native.Nat.{ℕ, zero, suc, _+_, _<_}
 use native.Mathlib.Nat.{not-suc-le-zero, le-of-suc-le-suc, add-zero, add-suc, zero-add, suc-add}
 use native.Mathlib.Numerals.{add-one}
 use mathlib.Core.Path.{_≡_, refl, sym, _∙_, subst, ap, ap₂}
 use mathlib.Core.Bool.{Bool, true, false, not, _&&_, and-false}
-use mathlib.Core.List.{List, [], _∷_, map}
-use lib.ListN.{length, getD, drop, set, length-drop}
-use lib.Seq.{getD-drop}
+use mathlib.Core.List.{List, [], _∷_, map, _++_}
+use lib.ListN.{length, getD, drop, set, length-drop, take}
+use lib.Seq.{getD-drop, take-nil}
 use native.Mathlib.Omega.{arith}
 use lib.Dec.{T, ltb, ltb→lt, lt→ltb}
 use Rattle.opcodes.specs.Lists.{All, all-nil, all-cons, upFrom, only}
 use Rattle.opcodes.specs.Words.{is, CLOSURE, SETLIST}
-use Rattle.roles.specs.Table.{Proto}
-use Rattle.roles.specs.Roles.{Role, Instruction, ClosureBinding, SetlistExtra, isExecutable, executableAt, Executable, bindingCount, hasExtra, claims, rolesFrom, roles, roleAt, wordAt, owned, existing, companions}
+use Rattle.chunk.specs.Table.{Proto}
+use Rattle.chunk.specs.Roles.{Role, Instruction, ClosureBinding, SetlistExtra, isExecutable, executableAt, Executable, bindingCount, hasExtra, claims, rolesFrom, roles, roleAt, wordAt, owned, existing, companions}
 use Rattle.opcodes.proofs.AllLaws.{all-append, all-at}
 use Rattle.opcodes.proofs.TestLaws.{T-and, T-true, T-false, and-T, by-cond, disjoint, is-not}
 
@@ -144,3 +144,17 @@ companion-unread p pc [] (v ∷ ws) zero w t = absurd t
 companion-unread p pc [] (v ∷ ws) (suc k) w t = ap (λ (l : List Role). Instruction ∷ l) (companion-unread p (suc pc) (claims p pc v) ws k w t)
 companion-unread p pc (r ∷ claimed) (v ∷ ws) zero w t = refl
 companion-unread p pc (r ∷ claimed) (v ∷ ws) (suc k) w t = ap (λ (l : List Role). r ∷ l) (companion-unread p (suc pc) claimed ws k w t)
+
+-- ---- claimed words
+
+-- as many as exist take their roles, and the word after them is looked at next
+pub past-claims : (p : Proto) (pc : ℕ) (cl : List Role) (ws : List ℕ) → let mine = take (length ws) cl in rolesFrom p pc cl ws ≡ mine ++ rolesFrom p (pc + length mine) [] (drop (length mine) ws)
+unfolding rolesFrom
+past-claims p pc [] ws = rw (take-nil, add-zero)
+past-claims p pc (r ∷ cl) [] = refl
+past-claims p pc (r ∷ cl) (w ∷ ws) = ap (λ (l : List Role). r ∷ l) (past-claims p (suc pc) cl ws ∙ rw (suc-add, add-suc))
+
+-- a SETLIST is no CLOSURE
+pub no-both : {X : Type 0} (w : ℕ) → T (hasExtra w) → T (is w (CLOSURE ∷ [])) → X
+unfolding hasExtra
+no-both w x c = absurd (subst T (is-not w (SETLIST ∷ []) (CLOSURE ∷ []) tt (T-and (is w (SETLIST ∷ [])) _ x .0)) c)

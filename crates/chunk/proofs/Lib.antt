@@ -1,0 +1,13 @@
+pub mod BindingRecordLaws
+pub mod ChildLaws
+pub mod ExampleLaws
+pub mod RefusalLaws
+pub mod RoleBufferLaws
+pub mod RoleLaws
+pub mod RoleRecordLaws
+pub mod RowCheckLaws
+pub mod TableLaws
+pub mod TotalLaws
+pub mod UntouchedLaws
+pub mod WriteLaws
+pub mod WrittenLaws

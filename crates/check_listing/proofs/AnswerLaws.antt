@@ -6,12 +6,12 @@ use mathlib.Core.List.{List, flatMap}
 use mathlib.Core.Option.{Option, none}
 use lib.ListN.{length}
 use Rattle.opcodes.specs.Bytes.{i32Record, overwrite}
-use Rattle.roles.specs.Calls.{accepted, filled}
+use Rattle.chunk.specs.Calls.{accepted, filled}
 use Rattle.roles.specs.Contracts.{refusedOf}
-use Rattle.roles.specs.Refusals.{Refused}
+use Rattle.chunk.specs.Refusals.{Refused}
 use Rattle.roles.specs.declared.refusals.Refusal.{Refusal}
-use Rattle.roles.proofs.RefusalLaws.{orElse-none}
-use Rattle.roles.proofs.WrittenLaws.{accepted-none, accepted-result, fits}
+use Rattle.chunk.proofs.RefusalLaws.{orElse-none}
+use Rattle.chunk.proofs.WrittenLaws.{accepted-none, accepted-result, fits}
 use Rattle.verdict.specs.Check.{Checked, checkAnswer, checkRefusal, checked, diagnosticsAfter}
 use Rattle.verdict.specs.Image.{Image, diagnostics}
 use Rattle.verdict.specs.Walk.{RowDiagnostic, diagnosticBytes, diagnosticFields}

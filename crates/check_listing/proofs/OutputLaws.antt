@@ -7,8 +7,8 @@ use mathlib.Core.List.{List, []}
 use lib.ListN.{length, take}
 use Rattle.opcodes.specs.Bytes.{overwrite}
 use Rattle.opcodes.proofs.ByteLaws.{length-overwrite}
-use Rattle.roles.specs.Calls.{Answer, accepted, refused}
-use Rattle.roles.specs.Refusals.{Refused}
+use Rattle.chunk.specs.Calls.{Answer, accepted, refused}
+use Rattle.chunk.specs.Refusals.{Refused}
 use Rattle.verdict.specs.Check.{Checked, checkAnswer}
 use Rattle.verdict.specs.Image.{Image, diagnostics}
 use Rattle.verdict.specs.Walk.{RowDiagnostic}

@@ -16,7 +16,7 @@ use Rattle.opcodes.specs.Lists.{tabulate, every}
 use Rattle.opcodes.proofs.ByteLaws.{length-overwrite, overwrite-none, overwrite-front, overwrite-next, sets-overwrite}
 use Rattle.opcodes.proofs.ListLaws.{getD-tabulate, length-tabulate, tabulate-next, flatMap-append}
 use Rattle.opcodes.proofs.TestLaws.{T-and, by-cond}
-use Rattle.roles.specs.Refusals.{Refused}
+use Rattle.chunk.specs.Refusals.{Refused}
 use Rattle.verdict.specs.Check.{Checked}
 use Rattle.verdict.specs.Walk.{Verdict, ValidForParser, Incomplete, Invalid, RowDiagnostic}
 use Rattle.listing.specs.Text.{newline, space, text, line, digits, decimal, integer}

@@ -14,7 +14,7 @@ use Rattle.opcodes.specs.Bytes.{overwrite, u32Bytes, u32Record}
 use Rattle.opcodes.proofs.ByteLaws.{length-u32Bytes, length-u32Record, overwrite-fits, u32Record-append}
 use Rattle.opcodes.proofs.TestLaws.{true≢false}
 use Rattle.verdict.specs.Image.{Image}
-use Rattle.roles.specs.Table.{rowBytes, rowFields}
+use Rattle.chunk.specs.Table.{rowBytes, rowFields}
 use Rattle.listing.specs.Text.{text as textOf, lines, same, isDecimal}
 use Rattle.listing.specs.Listing.{Read, stopped, done, andThen, refusedAt, readAs, readLine, named, decimals, hexWord, readRows, readWords, readListing, maxRows, maxWords}
 use Rattle.listing.proofs.PrefixLaws.{andThen-same}

@@ -10,7 +10,7 @@ use lib.ListN.{length, getD, take, drop}
 use lib.IntN.{ℤ, pos, negsuc}
 use Rattle.opcodes.specs.Bytes.{overwrite, u32At, u32Record}
 use Rattle.opcodes.specs.Lists.{tabulate}
-use Rattle.roles.specs.Table.{rowBytes}
+use Rattle.chunk.specs.Table.{rowBytes}
 use Rattle.verdict.specs.Walk.{RowDiagnostic, diagnosticBytes}
 use Rattle.verdict.specs.Image.{Image}
 use Rattle.listing.specs.Text.{newline, lines, isDecimal, same, valueOf}

@@ -14,7 +14,7 @@ ghost use lib.ListN.{drop, length};
 ghost use Rattle.check_listing.specs.Contracts.{HeadFits, LineFits, ListingFits, RowsFit, WordsFit, headThen, lineFrom, listingOf, readBody, readCode, rowsThen, wordsThen};
 ghost use Rattle.listing.specs.Listing.{maxRows, maxWords, readListing};
 ghost use Rattle.listing.specs.Text.{lines};
-ghost use Rattle.roles.specs.Table.{rowBytes};
+ghost use Rattle.chunk.specs.Table.{rowBytes};
 
 // The most rows and words that are read.
 pub const MAX_ROWS: usize = 64;

@@ -4,7 +4,7 @@ use native.Mathlib.Omega.{arith}
 use borrow.Author.Needs.{needs}
 use mathlib.Core.Path.{_≡_, refl, sym, _∙_}
 use lib.ListN.{drop, length, take}
-use Rattle.roles.specs.Table.{rowBytes}
+use Rattle.chunk.specs.Table.{rowBytes}
 use Rattle.listing.specs.Listing.{maxRows}
 use Rattle.listing.specs.Text.{lines, text as textOf}
 use Rattle.check_listing.specs.Contracts.{RowsFit, readBody, rowsThen}

@@ -36,6 +36,7 @@ use Rattle.verdict.proofs.ExecutionLaws.{runs-safe}
 use Rattle.verdict.proofs.WalkLaws.{valid-well-formed, well-formed-valid, invalid-iff, advance-going, word-is-one-step}
 use Rattle.verdict.proofs.LimitLaws.{at-most}
 use Rattle.verdict.proofs.MostLaws.{fullest, fullest-accepted, fullest-count}
+use Rattle.verdict.proofs.RangeLaws.{Signed32, diagnostics-held, fields-signed}
 use Rattle.verdict.proofs.TreeLaws.{image-by-children}
 use Rattle.verdict.proofs.GuaranteeLaws.{check-guaranteed, check-untouched, check-written}
 use Rattle.verdict.proofs.ExampleLaws.{examples-hold, misreadings-excluded, runs-hold}
@@ -85,6 +86,11 @@ theorem-e i a = at-most i a
 pub theorem-e-reached : Accepted fullest × (fullest .warnings ≡ 0) × (fullest .errors ≡ 0) × (length (diagnostics fullest) ≡ 10255)
 unfolding fullest
 theorem-e-reached = (fullest-accepted, refl, refl, fullest-count)
+
+-- "Four i32: row, place, code, value": they hold the numbers of each diagnostic of such an image
+pub records-hold : (i : Image) → Accepted i → All (λ d. All Signed32 (diagnosticFields d)) (diagnostics i)
+unfolding Accepted
+records-hold i a = all-imp fields-signed (diagnostics-held i a)
 
 -- ---- f. the worked examples P1 to P13, and the misreadings that document 01 excludes: each has its cases in a table, and the first three a law too
 

@@ -1,16 +1,16 @@
 -- The lines of a text from an index on: the one that starts there, and those after it. Assumes nothing.
-use Prim.Native.Nat.{ℕ, zero, suc, _+_, _-_, _<_, _≤_}
+use Prim.Native.Nat.{ℕ, suc, _+_, _-_, _<_, _≤_}
 use native.Mathlib.Omega.{arith}
 use native.Mathlib.Nat.{not-suc-le-zero}
 use mathlib.Core.Path.{_≡_, refl, sym, ap, ap₂, _∙_, subst⁻¹}
 use mathlib.Core.Bool.{Bool, true, false, cond}
 use mathlib.Core.List.{List, [], _∷_}
-use mathlib.Core.Option.{Option, none, some}
+use mathlib.Core.Option.{Option, none}
 use lib.Dec.{eqb}
 use lib.ListN.{length, length-drop, getD, take, drop}
 use lib.Seq.{drop-drop}
 use Rattle.listing.specs.Text.{newline, joinFirst, lines, same}
-use Rattle.listing.specs.Listing.{Read, readAs, readLine}
+use Rattle.listing.specs.Listing.{readAs, readLine}
 use Rattle.check_listing.specs.Contracts.{lineFrom, lineLength}
 use Rattle.check_listing.specs.declared.reader.Line.the-variants.{Ends, Other}
 use Rattle.check_listing.proofs.ScanLaws.{next, past}

@@ -4,13 +4,13 @@ use native.Mathlib.Omega.{arith}
 use native.Mathlib.Nat.{le-refl, le-trans, le-add-right, le-mul-of-pos-right, le-of-lt, mul-le-mul, mul-le-mul-right, mul-assoc, pow-succ', not-suc-le-zero, pos-of-ne-zero}
 use mathlib.Core.Path.{_≡_, refl, sym, ap, _∙_, subst, subst⁻¹}
 use mathlib.Core.Bool.{Bool, true, false, _&&_, _||_, cond, not}
-use mathlib.Core.List.{List, [], _∷_, _++_, foldl}
-use mathlib.Core.Option.{Option, none, some}
+use mathlib.Core.List.{List, [], _∷_, foldl}
+use mathlib.Core.Option.{Option}
 use lib.Dec.{T, eqb, ltb, leb}
 use lib.ListN.{length, getD, take, drop}
 use lib.Seq.{length-take-le}
 use borrow.Author.Tests.{lt-ltb, le-ltb, le-leb, lt-leb, leb-true, leb-false, eq-eqb, ne-eqb}
-use Rattle.opcodes.specs.Lists.{every, takeWhile}
+use Rattle.opcodes.specs.Lists.{every}
 use Rattle.opcodes.proofs.TestLaws.{T-and, T-true, true≢false}
 use Rattle.listing.specs.Text.{isDigit, isHexDigit, isDecimal, digitValue, valueOf}
 use Rattle.listing.specs.Listing.{separator, hexWord}

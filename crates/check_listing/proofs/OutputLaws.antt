@@ -8,10 +8,8 @@ use lib.ListN.{length, take}
 use Rattle.opcodes.specs.Bytes.{overwrite}
 use Rattle.opcodes.proofs.ByteLaws.{length-overwrite}
 use Rattle.chunk.specs.Calls.{Answer, accepted, refused}
-use Rattle.chunk.specs.Refusals.{Refused}
 use Rattle.verdict.specs.Check.{Checked, checkAnswer}
 use Rattle.verdict.specs.Image.{Image, diagnostics}
-use Rattle.verdict.specs.Walk.{RowDiagnostic}
 use Rattle.listing.specs.Listing.{Read, done, maxWords, readListing, stopped}
 use Rattle.listing.specs.Longest.{inputBytes}
 use Rattle.listing.specs.Packcheck.{answerText, maxDiagnostics, outputText, packcheck, refusalText, resultText}

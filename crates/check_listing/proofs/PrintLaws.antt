@@ -10,10 +10,10 @@ use borrow.Author.Tests.{lt-ltb, le-ltb}
 use lib.Dec.{T, ltb, leb, leb→le}
 use lib.ListN.{length, getD, take, drop, set, length-append, List·getD-eq-default}
 use lib.IntN.{ℤ, pos, negsuc}
-use lib.Seq.{take-suc, take-at}
+use lib.Seq.{take-suc}
 use Rattle.opcodes.specs.Bytes.{overwrite, u32At}
 use Rattle.opcodes.specs.Lists.{tabulate, every}
-use Rattle.opcodes.proofs.ByteLaws.{length-overwrite, overwrite-none, overwrite-front, overwrite-next, sets-overwrite}
+use Rattle.opcodes.proofs.ByteLaws.{length-overwrite, overwrite-none, overwrite-next, sets-overwrite}
 use Rattle.opcodes.proofs.ListLaws.{getD-tabulate, length-tabulate, tabulate-next, flatMap-append}
 use Rattle.opcodes.proofs.TestLaws.{T-and, by-cond}
 use Rattle.chunk.specs.Refusals.{Refused}
@@ -307,12 +307,6 @@ prints-result buffer count v h p q r s t =
     (prints-item (text (verdictName v)) (omega (arith, p .ends, r .ends, prints-length p, prints-length q, prints-length r)) s t))))
 
 -- ---- for the caller
-
--- what was printed from the start on stands there
-pub prints-start : {old t new : List ℕ} {end : ℕ} → end ≤ length old → Prints old 0 t new end → take end new ≡ t
-prints-start {old} {t} {end = end} h p =
-    let front : overwrite old 0 t ≡ t ++ drop (length t) old = overwrite-front old t (omega (arith, p .ends)) in
-    ap (take end) (p .bytes ∙ front) ∙ take-at t (drop (length t) old) end (omega (arith, p .ends))
 
 -- where a refusal ends
 pub refusal-end : {old new : List ℕ} {end : ℕ} (r : Refused) → Prints old 0 (refusalText r) new end → end ≤ 30

@@ -15,7 +15,7 @@ use Rattle.verdict.specs.Walk.{RowDiagnostic, diagnosticBytes}
 use Rattle.verdict.specs.Image.{Image}
 use Rattle.listing.specs.Text.{newline, lines, isDecimal, same, valueOf}
 use Rattle.listing.specs.Packcheck.{maxDiagnostics}
-use Rattle.listing.specs.Listing.{Read, stopped, done, andThen, refusedAt, readRows, readWords, maxRows, maxWords}
+use Rattle.listing.specs.Listing.{Read, done, andThen, refusedAt, readRows, readWords, maxRows, maxWords}
 use Rattle.check_listing.specs.declared.numbers.Number.{Number}
 use Rattle.check_listing.specs.declared.numbers.Number.the-variants as number
 use Rattle.check_listing.specs.declared.reader.Unread.{Unread}

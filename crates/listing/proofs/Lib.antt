@@ -3,3 +3,4 @@ pub mod LineLaws
 pub mod FormLaws
 pub mod LongestLaws
 pub mod PrefixLaws
+pub mod RefusalNumberLaws

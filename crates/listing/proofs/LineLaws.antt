@@ -4,7 +4,7 @@ use native.Mathlib.Nat.{pow-succ', mul-le-mul-right, pow-le-pow-right}
 use native.Mathlib.Omega.{arith}
 use mathlib.Core.Path.{_≡_, refl, sym, _∙_, ap, ap₂, subst}
 use mathlib.Core.Bool.{Bool, true, false, not, _&&_, _||_, cond}
-use mathlib.Core.List.{List, [], _∷_, _++_, foldl, foldl-append, flatten}
+use mathlib.Core.List.{List, [], _∷_, _++_, foldl, flatten}
 use lib.Dec.{T, eqb, leb, ltb, eqb→eq, eqb-refl, T-not, ltb→lt, leb→le}
 use lib.ListN.{length, getD, take, drop}
 use borrow.Author.Tests.{leb-true, leb-false, eqb-false, eq-eqb, ne-eqb}
@@ -110,11 +110,6 @@ pub takeWhile-stop : {A : Type 0} (f : A → Bool) (xs : List A) (y : A) (ys : L
 takeWhile-stop f [] y ys t e = rw e
 takeWhile-stop f (x ∷ xs) y ys t e =
     let both = T-and (f x) (every f xs) t in rw (T-true (f x) (both .0)) (ap (λ (l : List _). x ∷ l) (takeWhile-stop f xs y ys (both .1) e))
-
--- the value with one digit more
-pub valueOf-next : (base : ℕ) (ds : List ℕ) (d : ℕ) → valueOf base (ds ++ d ∷ []) ≡ valueOf base ds * base + digitValue d
-unfolding valueOf
-valueOf-next base ds d = foldl-append (λ (n d : ℕ). n * base + digitValue d) 0 ds (d ∷ [])
 
 -- digits after a value multiply it
 valueFrom-least : (n : ℕ) (ds : List ℕ) → n * 10 ^ length ds ≤ foldl (λ (n d : ℕ). n * 10 + digitValue d) n ds

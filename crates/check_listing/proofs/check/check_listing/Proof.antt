@@ -1,7 +1,7 @@
 -- `check::check_listing` meets its contract. Assumes nothing.
 use native.Mathlib.Omega.{arith}
 use borrow.Author.Needs.{needs}
-use mathlib.Core.Path.{_≡_, refl, sym, ap, _∙_}
+use mathlib.Core.Path.{refl, sym, ap, _∙_}
 use lib.Seq.{length-take-le}
 use Rattle.listing.specs.Packcheck.{outputText}
 use Rattle.check_listing.specs.Contracts.{listingOf}

@@ -1,7 +1,7 @@
 -- `check::print_check` meets its contract. Assumes nothing.
 use native.Mathlib.Omega.{arith}
 use borrow.Author.Needs.{needs}
-use mathlib.Core.Path.{_≡_, refl, ap₂, _∙_}
+use mathlib.Core.Path.{refl, ap₂, _∙_}
 use Rattle.listing.specs.Packcheck.{refusalText}
 use Rattle.check_listing.proofs.AnswerLaws.{refusal-output, result-count, result-output}
 use Rattle.check_listing.proofs.PrintLaws.{prints-as}

@@ -1,7 +1,7 @@
 -- `check::print_unread` meets its contract. Assumes nothing.
 use native.Mathlib.Omega.{arith}
 use borrow.Author.Needs.{needs}
-use mathlib.Core.Path.{_≡_, sym, ap}
+use mathlib.Core.Path.{sym, ap}
 use Rattle.listing.specs.Listing.{refusedAt}
 use Rattle.listing.specs.Packcheck.{outputText}
 use Rattle.check_listing.specs.Contracts.{unread}

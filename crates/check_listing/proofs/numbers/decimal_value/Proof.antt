@@ -1,6 +1,6 @@
 -- `numbers::decimal_value` meets its contract. Assumes nothing.
 use native.Mathlib.Omega.{arith}
-use mathlib.Core.Path.{_≡_, sym, _∙_}
+use mathlib.Core.Path.{sym, _∙_}
 use Rattle.check_listing.proofs.NumberLaws.{decimal-empty, decimal-zero, decimal-value}
 use Rattle.check_listing.proofs.numbers.decimal_value.Statement.{statement}
 use Rattle.check_listing.proofs.numbers.decimal_value.Tie as tie

@@ -1,7 +1,7 @@
 -- `numbers::digit_value` meets its contract. Assumes nothing.
 use native.Mathlib.Omega.{arith}
 use borrow.Author.Needs.{needs}
-use mathlib.Core.Path.{_≡_, sym, _∙_}
+use mathlib.Core.Path.{sym, _∙_}
 use Rattle.check_listing.proofs.NumberLaws.{digit-least, digit-worth, letter-worth}
 use Rattle.check_listing.proofs.numbers.digit_value.Statement.{statement}
 use Rattle.check_listing.proofs.numbers.digit_value.Tie as tie

@@ -1,5 +1,5 @@
 -- `numbers::is_hex_digit` meets its contract. Assumes nothing.
-use mathlib.Core.Path.{_≡_, sym, _∙_}
+use mathlib.Core.Path.{sym, _∙_}
 use Rattle.check_listing.proofs.NumberLaws.{hex-digit, hex-low, hex-rest}
 use Rattle.check_listing.proofs.numbers.is_hex_digit.Statement.{statement}
 use Rattle.check_listing.proofs.numbers.is_hex_digit.Tie as tie

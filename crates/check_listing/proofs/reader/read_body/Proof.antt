@@ -1,7 +1,7 @@
 -- `reader::read_body` meets its contract. Assumes nothing.
 use native.Mathlib.Omega.{arith}
 use borrow.Author.Needs.{needs}
-use mathlib.Core.Path.{_≡_, ap, _∙_}
+use mathlib.Core.Path.{ap, _∙_}
 use Rattle.check_listing.specs.Contracts.{ListingFits, listingOf, rowsThen, wordsThen}
 use Rattle.check_listing.proofs.ReadLaws.{rows-fit, words-fit}
 use Rattle.check_listing.proofs.reader.read_body.Statement.{statement}

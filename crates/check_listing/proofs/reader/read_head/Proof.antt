@@ -1,7 +1,7 @@
 -- `reader::read_head` meets its contract: the first line, the second, the third. Assumes nothing.
 use native.Mathlib.Omega.{arith}
 use borrow.Author.Needs.{needs}
-use mathlib.Core.Path.{_≡_, sym, _∙_}
+use mathlib.Core.Path.{sym, _∙_}
 use Rattle.listing.specs.Text.{text}
 use Rattle.check_listing.specs.Contracts.{HeadFits, headThen}
 use Rattle.check_listing.proofs.ReadLaws.{ends-fit, parsed-false, parsed-true, first-other, first-there, second-malformed, second-there, third-other, third-there}

@@ -1,6 +1,6 @@
 -- `reader::skip_line` meets its contract. Assumes nothing.
 use native.Mathlib.Omega.{arith}
-use mathlib.Core.Path.{_≡_, sym, _∙_}
+use mathlib.Core.Path.{sym, _∙_}
 use Rattle.check_listing.specs.Contracts.{LineFits}
 use Rattle.check_listing.proofs.LinesLaws.{line-skipped, line-other}
 use Rattle.check_listing.proofs.reader.skip_line.Statement.{statement}

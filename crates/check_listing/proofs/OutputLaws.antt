@@ -1,5 +1,5 @@
 -- The whole output: how long it is at most, and that what was printed is it. Assumes nothing.
-use Prim.Native.Nat.{ℕ, _+_, _*_, _≤_}
+use Prim.Native.Nat.{ℕ, _+_, _≤_}
 use native.Mathlib.Omega.{arith}
 use native.Mathlib.Nat.{zero-add}
 use mathlib.Core.Path.{_≡_, refl, sym, ap, _∙_}
@@ -10,9 +10,9 @@ use Rattle.opcodes.proofs.ByteLaws.{length-overwrite}
 use Rattle.chunk.specs.Calls.{Answer, accepted, refused}
 use Rattle.verdict.specs.Check.{Checked, checkAnswer}
 use Rattle.verdict.specs.Image.{Image, diagnostics}
-use Rattle.listing.specs.Listing.{Read, done, maxWords, readListing, stopped}
+use Rattle.listing.specs.Listing.{Read, done, readListing, stopped}
 use Rattle.listing.specs.Longest.{inputBytes}
-use Rattle.listing.specs.Packcheck.{answerText, maxDiagnostics, outputText, packcheck, refusalText, resultText}
+use Rattle.listing.specs.Packcheck.{answerText, diagnosticRoom, outputText, packcheck, refusalText, resultText, roleRoom}
 use Rattle.listing.proofs.PrefixLaws.{long-input}
 use Rattle.check_listing.specs.Contracts.{Prints, outputBytes}
 use Rattle.check_listing.proofs.AnswerLaws.{accepted-count}
@@ -26,9 +26,9 @@ nowhere t = record { bytes = refl; ends = refl }
 pub output-fits : (o : Read Image) → length (outputText o) ≤ outputBytes
 unfolding outputText answerText
 output-fits (stopped r) = let short = refusal-end r (nowhere (refusalText r)) in omega arith
-output-fits (done i) = go (checkAnswer i (8 * maxWords) (16 * maxDiagnostics)) refl
+output-fits (done i) = go (checkAnswer i roleRoom diagnosticRoom) refl
   where
-    go : (a : Answer Checked) → checkAnswer i (8 * maxWords) (16 * maxDiagnostics) ≡ a → length (answerText (diagnostics i) a) ≤ outputBytes
+    go : (a : Answer Checked) → checkAnswer i roleRoom diagnosticRoom ≡ a → length (answerText (diagnostics i) a) ≤ outputBytes
     go (refused r) e = let short = refusal-end r (nowhere (refusalText r)) in omega arith
     go (accepted c) e =
         let few = accepted-count i c e .0 in

@@ -15,7 +15,7 @@ use Rattle.opcodes.proofs.TestLaws.{true≢false}
 use Rattle.verdict.specs.Image.{Image}
 use Rattle.chunk.specs.Table.{rowBytes, rowFields}
 use Rattle.listing.specs.Text.{text as textOf, lines, same, isDecimal}
-use Rattle.listing.specs.Listing.{Read, stopped, done, andThen, refusedAt, readAs, readLine, named, decimals, hexWord, readRows, readWords, readListing, maxRows, maxWords}
+use Rattle.listing.specs.Listing.{Read, stopped, done, andThen, refusedAt, readAs, readLine, named, decimals, hexWord, readRows, readWords, readListing, maxListingRows, maxListingWords}
 use Rattle.listing.proofs.PrefixLaws.{andThen-same}
 use Rattle.check_listing.specs.Contracts.{HeadFits, LineFits, ListingFits, RowsFit, WordsFit, lineFrom, lineLength, numberOf, numbersOf, readBody, readCode, unread}
 use Rattle.check_listing.specs.declared.numbers.Number.the-variants.{Value, Malformed}
@@ -48,13 +48,13 @@ front-next old new bytes at next e ends fits =
 -- rows from a line on, after so many that were read
 unfoldable pub bodyFrom : ℕ → List ℕ → List (List ℕ) → ℕ → ℕ → Read Image
 bodyFrom n table ls warnings errors =
-    andThen (readRows (4 + n) (maxRows - n) ls) (λ rs. readCode (5 + (n + length rs)) (drop (1 + length rs) ls) (table ++ u32Record (flatten rs)) warnings errors)
+    andThen (readRows (4 + n) (maxListingRows - n) ls) (λ rs. readCode (5 + (n + length rs)) (drop (1 + length rs) ls) (table ++ u32Record (flatten rs)) warnings errors)
 
 -- before the first row
 pub body-first : (ls : List (List ℕ)) (table : List ℕ) (warnings errors : ℕ) → readBody ls warnings errors ≡ bodyFrom 0 (take 0 table) ls warnings errors
 unfolding readBody bodyFrom
 body-first ls table warnings errors =
-    andThen-same (readRows 4 maxRows ls) (readRows 4 maxRows ls) _ _ refl (λ rs _. ap (λ (k : ℕ). readCode (5 + k) (drop (1 + length rs) ls) (u32Record (flatten rs)) warnings errors) (sym (zero-add (length rs))))
+    andThen-same (readRows 4 maxListingRows ls) (readRows 4 maxListingRows ls) _ _ refl (λ rs _. ap (λ (k : ℕ). readCode (5 + k) (drop (1 + length rs) ls) (u32Record (flatten rs)) warnings errors) (sym (zero-add (length rs))))
 
 -- no line there
 body-missing : (n : ℕ) (table : List ℕ) (warnings errors : ℕ) → bodyFrom n table [] warnings errors ≡ unread (MalformedLine (4 + n))
@@ -73,17 +73,17 @@ module _ (n : ℕ) (table l : List ℕ) (ls : List (List ℕ)) (warnings errors 
   body-malformed ns e value = rw (e, ← value) refl
 
   -- one row too many
-  body-too-long : (ns : List ℕ) → same l (textOf "word\n") ≡ false → numbersOf true ns ≡ decimals rowFields l → n ≡ maxRows → bodyFrom n table (l ∷ ls) warnings errors ≡ unread (ListingTooLong (4 + n))
+  body-too-long : (ns : List ℕ) → same l (textOf "word\n") ≡ false → numbersOf true ns ≡ decimals rowFields l → n ≡ maxListingRows → bodyFrom n table (l ∷ ls) warnings errors ≡ unread (ListingTooLong (4 + n))
   unfolding bodyFrom readRows andThen readAs refusedAt unread numbersOf
   body-too-long ns e value full = rw (e, ← value, full) refl
 
   -- a row
-  row-read : (ns : List ℕ) → same l (textOf "word\n") ≡ false → numbersOf true ns ≡ decimals rowFields l → n < maxRows → readRows (4 + n) (maxRows - n) (l ∷ ls) ≡ andThen (readRows (4 + (n + 1)) (maxRows - (n + 1)) ls) (λ rs. done (ns ∷ rs))
+  row-read : (ns : List ℕ) → same l (textOf "word\n") ≡ false → numbersOf true ns ≡ decimals rowFields l → n < maxListingRows → readRows (4 + n) (maxListingRows - n) (l ∷ ls) ≡ andThen (readRows (4 + (n + 1)) (maxListingRows - (n + 1)) ls) (λ rs. done (ns ∷ rs))
   unfolding readRows andThen readAs numbersOf
   row-read ns e value room =
-      let left : maxRows - n ≡ suc (maxRows - (n + 1)) = omega arith in
+      let left : maxListingRows - n ≡ suc (maxListingRows - (n + 1)) = omega arith in
       let line : suc (4 + n) ≡ 4 + (n + 1) = omega arith in
-      let rest : suc (maxRows - (n + 1)) - 1 ≡ maxRows - (n + 1) = omega arith in
+      let rest : suc (maxListingRows - (n + 1)) - 1 ≡ maxListingRows - (n + 1) = omega arith in
       ap (λ (k : ℕ). readRows (4 + n) k (l ∷ ls)) left ∙ rw (e, ← value) (ap₂ (λ (a k : ℕ). andThen (readRows a k ls) (λ rs. done (ns ∷ rs))) line rest)
 
   -- and those after it
@@ -96,10 +96,10 @@ module _ (n : ℕ) (table l : List ℕ) (ls : List (List ℕ)) (warnings errors 
       ap₂ (λ (k : ℕ) (t : List ℕ). readCode (5 + k) (drop (1 + suc (length rs)) (l ∷ ls)) t warnings errors) line bytes
       ∙ ap (λ (k : ℕ). readCode (5 + (n + 1 + length rs)) (drop k (l ∷ ls)) (table ++ u32Record ns ++ u32Record (flatten rs)) warnings errors) after
 
-  body-row : (ns : List ℕ) → same l (textOf "word\n") ≡ false → numbersOf true ns ≡ decimals rowFields l → n < maxRows → bodyFrom n table (l ∷ ls) warnings errors ≡ bodyFrom (n + 1) (table ++ u32Record ns) ls warnings errors
+  body-row : (ns : List ℕ) → same l (textOf "word\n") ≡ false → numbersOf true ns ≡ decimals rowFields l → n < maxListingRows → bodyFrom n table (l ∷ ls) warnings errors ≡ bodyFrom (n + 1) (table ++ u32Record ns) ls warnings errors
   unfolding bodyFrom andThen
   body-row ns e value room =
-      let more = readRows (4 + (n + 1)) (maxRows - (n + 1)) ls in
+      let more = readRows (4 + (n + 1)) (maxListingRows - (n + 1)) ls in
       ap (λ (x : Read (List (List ℕ))). andThen x (λ rs. readCode (5 + (n + length rs)) (drop (1 + length rs) (l ∷ ls)) (table ++ u32Record (flatten rs)) warnings errors)) (row-read ns e value room)
       ∙ andThen-assoc more _ _
       ∙ andThen-same more more _ _ refl (λ rs _. row-then ns rs)
@@ -115,10 +115,10 @@ module _ (text : List ℕ) (at end : ℕ) (inside : at < length text) (ends : en
   pub row-malformed : (ns : List ℕ) → same (take (end - at) (drop at text)) (textOf "word\n") ≡ false → numbersOf false ns ≡ decimals rowFields (take (end - at) (drop at text)) → bodyFrom n (take (rowBytes * n) buffer) (lines (drop at text)) warnings errors ≡ unread (MalformedLine (4 + n))
   row-malformed ns e value = body-here ∙ body-malformed n (take (rowBytes * n) buffer) (take (end - at) (drop at text)) (lines (drop end text)) warnings errors ns e value
 
-  pub rows-too-many : (ns : List ℕ) → same (take (end - at) (drop at text)) (textOf "word\n") ≡ false → numbersOf true ns ≡ decimals rowFields (take (end - at) (drop at text)) → n ≡ maxRows → bodyFrom n (take (rowBytes * n) buffer) (lines (drop at text)) warnings errors ≡ unread (ListingTooLong (4 + n))
+  pub rows-too-many : (ns : List ℕ) → same (take (end - at) (drop at text)) (textOf "word\n") ≡ false → numbersOf true ns ≡ decimals rowFields (take (end - at) (drop at text)) → n ≡ maxListingRows → bodyFrom n (take (rowBytes * n) buffer) (lines (drop at text)) warnings errors ≡ unread (ListingTooLong (4 + n))
   rows-too-many ns e value full = body-here ∙ body-too-long n (take (rowBytes * n) buffer) (take (end - at) (drop at text)) (lines (drop end text)) warnings errors ns e value full
 
-  pub row-stored : (ns new : List ℕ) → same (take (end - at) (drop at text)) (textOf "word\n") ≡ false → numbersOf true (take rowFields ns) ≡ decimals rowFields (take (end - at) (drop at text)) → length ns ≡ rowFields → n < maxRows → length buffer ≡ rowBytes * maxRows → new ≡ overwrite buffer (rowBytes * n) (u32Record ns)
+  pub row-stored : (ns new : List ℕ) → same (take (end - at) (drop at text)) (textOf "word\n") ≡ false → numbersOf true (take rowFields ns) ≡ decimals rowFields (take (end - at) (drop at text)) → length ns ≡ rowFields → n < maxListingRows → length buffer ≡ rowBytes * maxListingRows → new ≡ overwrite buffer (rowBytes * n) (u32Record ns)
       → bodyFrom n (take (rowBytes * n) buffer) (lines (drop at text)) warnings errors ≡ bodyFrom (n + 1) (take (rowBytes * (n + 1)) new) (lines (drop end text)) warnings errors
   row-stored ns new e value five room long stored =
       let whole : take rowFields ns ≡ ns = take-all rowFields ns (omega arith) in
@@ -138,13 +138,13 @@ rows-missing text at h n buffer warnings errors =
 -- words from a line on, after so many that were read
 unfoldable pub codeFrom : ℕ → ℕ → List ℕ → List (List ℕ) → List ℕ → ℕ → ℕ → Read Image
 codeFrom line n code ls table warnings errors =
-    andThen (readWords (line + n) (maxWords - n) ls) (λ ws. done (record { table = table; words = code ++ u32Record ws; warnings = warnings; errors = errors }))
+    andThen (readWords (line + n) (maxListingWords - n) ls) (λ ws. done (record { table = table; words = code ++ u32Record ws; warnings = warnings; errors = errors }))
 
 -- before the first word
 pub code-first : (line : ℕ) (ls : List (List ℕ)) (code table : List ℕ) (warnings errors : ℕ) → readCode line ls table warnings errors ≡ codeFrom line 0 (take 0 code) ls table warnings errors
 unfolding readCode codeFrom
 code-first line ls code table warnings errors =
-    ap (λ (k : ℕ). andThen (readWords k maxWords ls) (λ ws. done (record { table = table; words = u32Record ws; warnings = warnings; errors = errors }))) (sym (add-zero line))
+    ap (λ (k : ℕ). andThen (readWords k maxListingWords ls) (λ ws. done (record { table = table; words = u32Record ws; warnings = warnings; errors = errors }))) (sym (add-zero line))
 
 -- past the last
 code-last : (line n : ℕ) (code table : List ℕ) (warnings errors : ℕ) → codeFrom line n code [] table warnings errors ≡ done (record { table = table; words = code; warnings = warnings; errors = errors })
@@ -158,23 +158,23 @@ module _ (line n : ℕ) (code l : List ℕ) (ls : List (List ℕ)) (table : List
   code-malformed value = rw (← value) refl
 
   -- one word too many
-  code-too-long : (w : ℕ) → numberOf (Value w) ≡ hexWord l → n ≡ maxWords → codeFrom line n code (l ∷ ls) table warnings errors ≡ unread (ListingTooLong (line + n))
+  code-too-long : (w : ℕ) → numberOf (Value w) ≡ hexWord l → n ≡ maxListingWords → codeFrom line n code (l ∷ ls) table warnings errors ≡ unread (ListingTooLong (line + n))
   unfolding codeFrom readWords andThen readAs refusedAt unread numberOf
   code-too-long w value full = rw (← value, full) refl
 
   -- a word
-  word-read : (w : ℕ) → numberOf (Value w) ≡ hexWord l → n < maxWords → readWords (line + n) (maxWords - n) (l ∷ ls) ≡ andThen (readWords (line + (n + 1)) (maxWords - (n + 1)) ls) (λ ws. done (w ∷ ws))
+  word-read : (w : ℕ) → numberOf (Value w) ≡ hexWord l → n < maxListingWords → readWords (line + n) (maxListingWords - n) (l ∷ ls) ≡ andThen (readWords (line + (n + 1)) (maxListingWords - (n + 1)) ls) (λ ws. done (w ∷ ws))
   unfolding readWords andThen readAs numberOf
   word-read w value room =
-      let left : maxWords - n ≡ suc (maxWords - (n + 1)) = omega arith in
+      let left : maxListingWords - n ≡ suc (maxListingWords - (n + 1)) = omega arith in
       let next : suc (line + n) ≡ line + (n + 1) = omega arith in
-      let rest : suc (maxWords - (n + 1)) - 1 ≡ maxWords - (n + 1) = omega arith in
+      let rest : suc (maxListingWords - (n + 1)) - 1 ≡ maxListingWords - (n + 1) = omega arith in
       ap (λ (k : ℕ). readWords (line + n) k (l ∷ ls)) left ∙ rw (← value) (ap₂ (λ (a k : ℕ). andThen (readWords a k ls) (λ ws. done (w ∷ ws))) next rest)
 
-  code-word : (w : ℕ) → numberOf (Value w) ≡ hexWord l → n < maxWords → codeFrom line n code (l ∷ ls) table warnings errors ≡ codeFrom line (n + 1) (code ++ u32Bytes w) ls table warnings errors
+  code-word : (w : ℕ) → numberOf (Value w) ≡ hexWord l → n < maxListingWords → codeFrom line n code (l ∷ ls) table warnings errors ≡ codeFrom line (n + 1) (code ++ u32Bytes w) ls table warnings errors
   unfolding codeFrom andThen u32Record flatMap
   code-word w value room =
-      let more = readWords (line + (n + 1)) (maxWords - (n + 1)) ls in
+      let more = readWords (line + (n + 1)) (maxListingWords - (n + 1)) ls in
       ap (λ (x : Read (List ℕ)). andThen x (λ ws. done (record { table = table; words = code ++ u32Record ws; warnings = warnings; errors = errors }))) (word-read w value room)
       ∙ andThen-assoc more _ _
       ∙ andThen-same more more _ _ refl (λ ws _. ap (λ (b : List ℕ). done (record { table = table; words = b; warnings = warnings; errors = errors })) (sym (append-assoc code (u32Bytes w) (u32Record ws))))
@@ -186,10 +186,10 @@ module _ (text : List ℕ) (at end : ℕ) (inside : at < length text) (ends : en
   pub word-malformed : numberOf Malformed ≡ hexWord (take (end - at) (drop at text)) → codeFrom line n (take (4 * n) buffer) (lines (drop at text)) table warnings errors ≡ unread (MalformedLine (line + n))
   word-malformed value = code-here ∙ code-malformed line n (take (4 * n) buffer) (take (end - at) (drop at text)) (lines (drop end text)) table warnings errors value
 
-  pub words-too-many : (w : ℕ) → numberOf (Value w) ≡ hexWord (take (end - at) (drop at text)) → n ≡ maxWords → codeFrom line n (take (4 * n) buffer) (lines (drop at text)) table warnings errors ≡ unread (ListingTooLong (line + n))
+  pub words-too-many : (w : ℕ) → numberOf (Value w) ≡ hexWord (take (end - at) (drop at text)) → n ≡ maxListingWords → codeFrom line n (take (4 * n) buffer) (lines (drop at text)) table warnings errors ≡ unread (ListingTooLong (line + n))
   words-too-many w value full = code-here ∙ code-too-long line n (take (4 * n) buffer) (take (end - at) (drop at text)) (lines (drop end text)) table warnings errors w value full
 
-  pub word-stored : (w : ℕ) (new : List ℕ) → numberOf (Value w) ≡ hexWord (take (end - at) (drop at text)) → n < maxWords → length buffer ≡ 4 * maxWords → new ≡ overwrite buffer (4 * n) (u32Bytes w)
+  pub word-stored : (w : ℕ) (new : List ℕ) → numberOf (Value w) ≡ hexWord (take (end - at) (drop at text)) → n < maxListingWords → length buffer ≡ 4 * maxListingWords → new ≡ overwrite buffer (4 * n) (u32Bytes w)
       → codeFrom line n (take (4 * n) buffer) (lines (drop at text)) table warnings errors ≡ codeFrom line (n + 1) (take (4 * (n + 1)) new) (lines (drop end text)) table warnings errors
   word-stored w new value room long stored =
       let size = length-u32Bytes w in
@@ -234,10 +234,10 @@ listing-first input =
     andThen-same (readLine 1 (named incomingNames) ls) (readLine 1 (named incomingNames) ls) _ _ refl (λ _ _.
     andThen-same (readLine 2 (decimals 2) (drop 1 ls)) (readLine 2 (decimals 2) (drop 1 ls)) _ _ refl (λ ns _.
     andThen-same (readLine 3 (named rowNames) (drop 2 ls)) (readLine 3 (named rowNames) (drop 1 (drop 1 ls))) _ _ (ap (readLine 3 (named rowNames)) two) (λ _ _.
-    andThen-same (readRows 4 maxRows (drop 3 ls)) (readRows 4 maxRows (drop 1 (drop 1 (drop 1 ls)))) _ _ (ap (readRows 4 maxRows) three) (λ rs _.
+    andThen-same (readRows 4 maxListingRows (drop 3 ls)) (readRows 4 maxListingRows (drop 1 (drop 1 (drop 1 ls)))) _ _ (ap (readRows 4 maxListingRows) three) (λ rs _.
     let place : 4 + length rs ≡ 3 + (1 + length rs) = omega arith in
     let after : drop (4 + length rs) ls ≡ drop (1 + length rs) (drop 1 (drop 1 (drop 1 ls))) = ap (λ (k : ℕ). drop k ls) place ∙ sym (drop-drop (1 + length rs) 3 ls) ∙ ap (drop (1 + length rs)) three in
-    ap (λ (l : List (List ℕ)). andThen (readWords (5 + length rs) maxWords l) (λ ws. done (record { table = u32Record (flatten rs); words = u32Record ws; warnings = getD ns 0 0; errors = getD ns 1 0 }))) after))))
+    ap (λ (l : List (List ℕ)). andThen (readWords (5 + length rs) maxListingWords l) (λ ws. done (record { table = u32Record (flatten rs); words = u32Record ws; warnings = getD ns 0 0; errors = getD ns 1 0 }))) after))))
 
 -- a line of names that is not there, or is
 module _ (text : List ℕ) (at : ℕ) (s : String) (n : ℕ) (empty : named s [] ≡ none) where
@@ -271,15 +271,15 @@ unfolding HeadFits
 head-fits long r warnings errors at e fits = subst (HeadFits long) e fits
 
 -- rows and words that were read are within their limits
-pub rows-fit : (long : ℕ) (r : Rows) (n at : ℕ) → r ≡ rows.Read n at → RowsFit long r → (n ≤ maxRows) × (at ≤ long)
+pub rows-fit : (long : ℕ) (r : Rows) (n at : ℕ) → r ≡ rows.Read n at → RowsFit long r → (n ≤ maxListingRows) × (at ≤ long)
 unfolding RowsFit
 rows-fit long r n at e fits = subst (RowsFit long) e fits
 
-pub words-fit : (r : Words) (n : ℕ) → r ≡ words.Read n → WordsFit r → n ≤ maxWords
+pub words-fit : (r : Words) (n : ℕ) → r ≡ words.Read n → WordsFit r → n ≤ maxListingWords
 unfolding WordsFit
 words-fit r n e fits = subst WordsFit e fits
 
-pub listing-fits : (r : Listing) (n m warnings errors : ℕ) → r ≡ listing.Read n m warnings errors → ListingFits r → (n ≤ maxRows) × (m ≤ maxWords)
+pub listing-fits : (r : Listing) (n m warnings errors : ℕ) → r ≡ listing.Read n m warnings errors → ListingFits r → (n ≤ maxListingRows) × (m ≤ maxListingWords)
 unfolding ListingFits
 listing-fits r n m warnings errors e fits = subst ListingFits e fits
 

@@ -15,7 +15,7 @@ use Rattle.verdict.specs.Walk.{RowDiagnostic, diagnosticBytes}
 use Rattle.verdict.specs.Image.{Image}
 use Rattle.listing.specs.Text.{newline, lines, isDecimal, same, valueOf}
 use Rattle.listing.specs.Packcheck.{maxDiagnostics}
-use Rattle.listing.specs.Listing.{Read, done, andThen, refusedAt, readRows, readWords, maxRows, maxWords}
+use Rattle.listing.specs.Listing.{Read, done, andThen, refusedAt, readRows, readWords, maxListingRows, maxListingWords}
 use Rattle.check_listing.specs.declared.numbers.Number.{Number}
 use Rattle.check_listing.specs.declared.numbers.Number.the-variants as number
 use Rattle.check_listing.specs.declared.reader.Unread.{Unread}
@@ -76,12 +76,12 @@ unread (ListingTooLong at) = refusedAt 10 at
 -- the words that start at line number `at`, after a table
 unfoldable pub readCode : ℕ → List (List ℕ) → List ℕ → ℕ → ℕ → Read Image
 readCode at ls table warnings errors =
-    andThen (readWords at maxWords ls) (λ ws. done (record { table = table; words = u32Record ws; warnings = warnings; errors = errors }))
+    andThen (readWords at maxListingWords ls) (λ ws. done (record { table = table; words = u32Record ws; warnings = warnings; errors = errors }))
 
 -- the rows and the words, from line 4 on
 unfoldable pub readBody : List (List ℕ) → ℕ → ℕ → Read Image
 readBody ls warnings errors =
-    andThen (readRows 4 maxRows ls) (λ rs. readCode (5 + length rs) (drop (1 + length rs) ls) (u32Record (flatten rs)) warnings errors)
+    andThen (readRows 4 maxListingRows ls) (λ rs. readCode (5 + length rs) (drop (1 + length rs) ls) (u32Record (flatten rs)) warnings errors)
 
 -- what is read after the first three lines
 unfoldable pub headThen : List ℕ → Head → Read Image
@@ -108,28 +108,28 @@ listingOf protos code (listing.Read n m warnings errors) =
 
 -- a line ends within a text of this length
 unfoldable pub LineFits : ℕ → Line → Type 0
-LineFits length (line.Ends at) = at ≤ length
-LineFits length line.Other = Unit
+LineFits bytes (line.Ends at) = at ≤ bytes
+LineFits bytes line.Other = Unit
 
 -- and the first three
 unfoldable pub HeadFits : ℕ → Head → Type 0
-HeadFits length (head.Refused u) = Unit
-HeadFits length (head.Read warnings errors at) = at ≤ length
+HeadFits bytes (head.Refused u) = Unit
+HeadFits bytes (head.Read warnings errors at) = at ≤ bytes
 
 -- so do the rows, which are not too many
 unfoldable pub RowsFit : ℕ → Rows → Type 0
-RowsFit length (rows.Refused u) = Unit
-RowsFit length (rows.Read n at) = (n ≤ maxRows) × (at ≤ length)
+RowsFit bytes (rows.Refused u) = Unit
+RowsFit bytes (rows.Read n at) = (n ≤ maxListingRows) × (at ≤ bytes)
 
 -- nor are the words
 unfoldable pub WordsFit : Words → Type 0
 WordsFit (words.Refused u) = Unit
-WordsFit (words.Read n) = n ≤ maxWords
+WordsFit (words.Read n) = n ≤ maxListingWords
 
 -- rows and words that were read
 unfoldable pub ListingFits : Listing → Type 0
 ListingFits (listing.Refused u) = Unit
-ListingFits (listing.Read n m warnings errors) = (n ≤ maxRows) × (m ≤ maxWords)
+ListingFits (listing.Read n m warnings errors) = (n ≤ maxListingRows) × (m ≤ maxListingWords)
 
 -- ---- texts
 
@@ -163,6 +163,6 @@ longestDiagnostic = 52
 abbrev pub longestAnswer : ℕ → ℕ
 longestAnswer count = 21 + longestDiagnostic * count + 17 + 15 + 11
 
--- the most bytes that are written
+-- no output is longer
 abbrev pub outputBytes : ℕ
 outputBytes = longestAnswer maxDiagnostics

@@ -20,28 +20,28 @@ ghost use Rattle.listing.specs.Packcheck.{outputText, packcheck};
 ghost use Rattle.opcodes.specs.Bytes.{overwrite};
 ghost use Rattle.validator.specs.Contracts.{imageOf};
 
-// The most bytes that are written.
-pub const OUTPUT_BYTES: usize = 106560;
+// No output is longer.
+pub const OUTPUT_LEN: usize = 106560;
 
 // Room for the rows and words that are read, for their roles and for 2,048 diagnostics.
-const PROTO_BYTES: usize = 1280;
+const PROTOS_LEN: usize = 1280;
 
-const WORD_BYTES: usize = 8192;
+const WORDS_LEN: usize = 8192;
 
-const ROLE_BYTES: usize = 16384;
+const ROLES_LEN: usize = 16384;
 
-const DIAGNOSTIC_BYTES: usize = 32768;
+const DIAGNOSTICS_LEN: usize = 32768;
 
 // Writes to the front of a buffer what packcheck writes for an input, and answers how many bytes that are. It writes the same for every longer
 // input of which these are the first 65,536 bytes.
-pub fn check_listing(input: &[u8], output: &mut [u8; OUTPUT_BYTES]) -> usize
+pub fn check_listing(input: &[u8], output: &mut [u8; OUTPUT_LEN]) -> usize
     ensures { λ r. ⌜ now (output .exit) ≡ overwrite (now (output .entry)) 0 (packcheck (now (input .entry))) ⌝ }
     ensures { λ r. ⌜ r ≡ length (packcheck (now (input .entry))) ⌝ }
     ensures { λ r. ⌜ r ≤ length (now (output .exit)) ⌝ }
     ensures { λ _. ⌜ ((whole : List ℕ) → take inputBytes whole ≡ now (input .entry) → packcheck whole ≡ packcheck (now (input .entry))) ⌝ }
 {
-    let mut protos = [0u8; PROTO_BYTES];
-    let mut words = [0u8; WORD_BYTES];
+    let mut protos = [0u8; PROTOS_LEN];
+    let mut words = [0u8; WORDS_LEN];
     match read_listing(input, &mut protos, &mut words) {
         Listing::Refused(unread) => print_unread(output, unread),
         Listing::Read(rows, count, warnings, errors) => {
@@ -74,8 +74,8 @@ fn print_check(protos: &[u8], words: &[u8], warnings: u32, errors: u32, output: 
     requires { ⌜ outputBytes ≤ length (now output) ⌝ }
     ensures { λ r. ⌜ Prints (now (output .entry)) 0 (outputText (done (imageOf (now (protos .entry)) (now (words .entry)) warnings errors))) (now (output .exit)) r ⌝ }
 {
-    let mut roles = [0u8; ROLE_BYTES];
-    let mut diagnostics = [0u8; DIAGNOSTIC_BYTES];
+    let mut roles = [0u8; ROLES_LEN];
+    let mut diagnostics = [0u8; DIAGNOSTICS_LEN];
     match validate_chunk_lua51(
         protos,
         words,

@@ -12,7 +12,7 @@ ghost use Prim.Native.Nat.{ℕ, _+_, _*_, _≤_};
 ghost use mathlib.Core.List.{List};
 ghost use lib.ListN.{drop, length};
 ghost use Rattle.check_listing.specs.Contracts.{HeadFits, LineFits, ListingFits, RowsFit, WordsFit, headThen, lineFrom, listingOf, readBody, readCode, rowsThen, wordsThen};
-ghost use Rattle.listing.specs.Listing.{maxRows, maxWords, readListing};
+ghost use Rattle.listing.specs.Listing.{maxListingRows, maxListingWords, readListing};
 ghost use Rattle.listing.specs.Text.{lines};
 ghost use Rattle.chunk.specs.Table.{rowBytes};
 
@@ -59,8 +59,8 @@ pub enum Line {
 
 // Reads a listing into a table and words. What these hold after a refusal is left free.
 pub fn read_listing(text: &[u8], protos: &mut [u8], words: &mut [u8]) -> Listing
-    requires { ⌜ length (now protos) ≡ rowBytes * maxRows ⌝ }
-    requires { ⌜ length (now words) ≡ 4 * maxWords ⌝ }
+    requires { ⌜ length (now protos) ≡ rowBytes * maxListingRows ⌝ }
+    requires { ⌜ length (now words) ≡ 4 * maxListingWords ⌝ }
     ensures { λ r. ⌜ readListing (now (text .entry)) ≡ listingOf (now (protos .exit)) (now (words .exit)) r ⌝ }
     ensures { λ r. ⌜ ListingFits r ⌝ }
 {
@@ -112,8 +112,8 @@ fn read_body(
     words: &mut [u8],
 ) -> Listing
     requires { ⌜ at ≤ length (now text) ⌝ }
-    requires { ⌜ length (now protos) ≡ rowBytes * maxRows ⌝ }
-    requires { ⌜ length (now words) ≡ 4 * maxWords ⌝ }
+    requires { ⌜ length (now protos) ≡ rowBytes * maxListingRows ⌝ }
+    requires { ⌜ length (now words) ≡ 4 * maxListingWords ⌝ }
     ensures { λ r. ⌜ readBody (lines (drop at (now (text .entry)))) warnings errors ≡ listingOf (now (protos .exit)) (now (words .exit)) r ⌝ }
     ensures { λ r. ⌜ ListingFits r ⌝ }
 {
@@ -131,7 +131,7 @@ fn read_body(
 // The rows, up to the line "word".
 fn read_rows(text: &[u8], start: usize, protos: &mut [u8]) -> Rows
     requires { ⌜ start ≤ length (now text) ⌝ }
-    requires { ⌜ length (now protos) ≡ rowBytes * maxRows ⌝ }
+    requires { ⌜ length (now protos) ≡ rowBytes * maxListingRows ⌝ }
     ensures { λ r. ⌜ ((warnings errors : ℕ) → readBody (lines (drop start (now (text .entry)))) warnings errors ≡ rowsThen (now (text .entry)) warnings errors (now (protos .exit)) r) ⌝ }
     ensures { λ r. ⌜ RowsFit (length (now (text .entry))) r ⌝ }
 {
@@ -159,8 +159,8 @@ fn read_rows(text: &[u8], start: usize, protos: &mut [u8]) -> Rows
 // The words, up to the end, from the line of this number on.
 fn read_words(text: &[u8], start: usize, line: usize, words: &mut [u8]) -> Words
     requires { ⌜ start ≤ length (now text) ⌝ }
-    requires { ⌜ line ≤ 5 + maxRows ⌝ }
-    requires { ⌜ length (now words) ≡ 4 * maxWords ⌝ }
+    requires { ⌜ line ≤ 5 + maxListingRows ⌝ }
+    requires { ⌜ length (now words) ≡ 4 * maxListingWords ⌝ }
     ensures { λ r. ⌜ ((table : List ℕ) (warnings errors : ℕ) → readCode line (lines (drop start (now (text .entry)))) table warnings errors ≡ wordsThen table warnings errors (now (words .exit)) r) ⌝ }
     ensures { λ r. ⌜ WordsFit r ⌝ }
 {

@@ -4,12 +4,12 @@ use native.Mathlib.Nat.{pow-succ', mul-le-mul-right, pow-le-pow-right}
 use native.Mathlib.Omega.{arith}
 use mathlib.Core.Path.{_≡_, refl, sym, _∙_, ap, ap₂, subst}
 use mathlib.Core.Bool.{Bool, true, false, not, _&&_, _||_, cond}
-use mathlib.Core.List.{List, [], _∷_, _++_, foldl, flatten}
+use mathlib.Core.List.{List, [], _∷_, foldl, flatten}
 use lib.Dec.{T, eqb, leb, ltb, eqb→eq, eqb-refl, T-not, ltb→lt, leb→le}
-use lib.ListN.{length, getD, take, drop}
+use lib.ListN.{length, getD, drop}
 use borrow.Author.Tests.{leb-true, leb-false, eqb-false, eq-eqb, ne-eqb}
 use Rattle.opcodes.specs.Lists.{elem, every, takeWhile, goOnIf}
-use Rattle.opcodes.proofs.TestLaws.{T-and, by-or, T-true, T-false, or-right, or-false}
+use Rattle.opcodes.proofs.TestLaws.{T-and, by-or, T-true, T-false, or-right}
 use Rattle.listing.specs.Text.{newline, same, joinFirst, lines, isDigit, digitValue, valueOf, isDecimal}
 use Rattle.listing.specs.Longest.{longestNumber}
 
@@ -23,12 +23,6 @@ same-≡ [] (y ∷ ys) t = absurd t
 same-≡ (x ∷ xs) [] t = absurd t
 same-≡ (x ∷ xs) (y ∷ ys) t =
     let both = T-and (eqb x y) (same xs ys) t in ap₂ (λ (c : ℕ) (l : List ℕ). c ∷ l) (eqb→eq x y (both .0)) (same-≡ xs ys (both .1))
-
--- a text is the same as itself
-pub same-refl : (l : List ℕ) → same l l ≡ true
-unfolding same
-same-refl [] = refl
-same-refl (x ∷ xs) = rw (T-true (eqb x x) (eqb-refl x)) (same-refl xs)
 
 -- a test that fails, the other way round
 pub eqb-swap : (a b : ℕ) → eqb a b ≡ false → eqb b a ≡ false
@@ -48,14 +42,6 @@ elem-drop x zero l t = t
 elem-drop x (suc n) [] t = t
 elem-drop x (suc n) (y ∷ l) t = or-right (eqb x y) (elem x l) (elem-drop x n l t)
 
--- what is none of the first k, and not that of index k, is none of one more
-pub elem-take-next : (x : ℕ) (l : List ℕ) (k d : ℕ) → elem x (take k l) ≡ false → (getD l k d ≡ x → ⊥) → elem x (take (suc k) l) ≡ false
-elem-take-next x [] zero d e h = refl
-elem-take-next x [] (suc k) d e h = refl
-elem-take-next x (y ∷ l) zero d e h = rw (ne-eqb x y (λ q. h (sym q)))
-elem-take-next x (y ∷ l) (suc k) d e h =
-    let each = or-false (eqb x y) (elem x (take k l)) e in rw (each .0) (elem-take-next x l k d (each .1) h)
-
 -- ---- lines
 
 -- the lines, end to end, are the text
@@ -72,28 +58,6 @@ flatten-lines (c ∷ cs) = go (eqb c newline) (lines cs) (flatten-lines cs)
     go true ls e = ap (λ (l : List ℕ). c ∷ l) e
     go false ls e = join ls ∙ ap (λ (l : List ℕ). c ∷ l) e
 
--- the first line, where a newline ends it, and the lines after it
-pub lines-next : (l rest : List ℕ) → elem newline l ≡ false → lines (l ++ newline ∷ rest) ≡ (l ++ newline ∷ []) ∷ lines rest
-unfolding lines joinFirst
-lines-next [] rest e = refl
-lines-next (c ∷ cs) rest e =
-    let each = or-false (eqb newline c) (elem newline cs) e in rw (eqb-swap newline c (each .0)) (ap (joinFirst c) (lines-next cs rest (each .1)))
-
--- the same by the index of the newline
-pub lines-at : (xs : List ℕ) (k : ℕ) → elem newline (take k xs) ≡ false → getD xs k 0 ≡ newline → lines xs ≡ take (suc k) xs ∷ lines (drop (suc k) xs)
-unfolding lines joinFirst
-lines-at [] k e h = absurd (omega arith)
-lines-at (c ∷ cs) zero e h = rw (eq-eqb c newline h)
-lines-at (c ∷ cs) (suc k) e h =
-    let each = or-false (eqb newline c) (elem newline (take k cs)) e in rw (eqb-swap newline c (each .0)) (ap (joinFirst c) (lines-at cs k (each .1) h))
-
--- a line that the end of the text cuts
-pub lines-last : (c : ℕ) (cs : List ℕ) → elem newline (c ∷ cs) ≡ false → lines (c ∷ cs) ≡ (c ∷ cs) ∷ []
-unfolding lines joinFirst
-lines-last c [] e = rw (eqb-swap newline c (or-false (eqb newline c) false e .0))
-lines-last c (d ∷ cs) e =
-    let each = or-false (eqb newline c) (elem newline (d ∷ cs)) e in rw (eqb-swap newline c (each .0)) (ap (joinFirst c) (lines-last d cs (each .1)))
-
 -- ---- digits
 
 -- what takeWhile takes passes its test
@@ -104,12 +68,6 @@ takeWhile-every f (x ∷ xs) = go (f x) refl (takeWhile-every f xs)
     go : (b : Bool) → f x ≡ b → T (every f (takeWhile f xs)) → T (every f (goOnIf b x (takeWhile f xs)))
     go true e t = rw e t
     go false e t = tt
-
--- it takes all that pass, up to one that does not
-pub takeWhile-stop : {A : Type 0} (f : A → Bool) (xs : List A) (y : A) (ys : List A) → T (every f xs) → f y ≡ false → takeWhile f (xs ++ y ∷ ys) ≡ xs
-takeWhile-stop f [] y ys t e = rw e
-takeWhile-stop f (x ∷ xs) y ys t e =
-    let both = T-and (f x) (every f xs) t in rw (T-true (f x) (both .0)) (ap (λ (l : List _). x ∷ l) (takeWhile-stop f xs y ys (both .1) e))
 
 -- digits after a value multiply it
 valueFrom-least : (n : ℕ) (ds : List ℕ) → n * 10 ^ length ds ≤ foldl (λ (n d : ℕ). n * 10 + digitValue d) n ds

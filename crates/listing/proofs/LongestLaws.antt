@@ -13,7 +13,7 @@ use Rattle.chunk.specs.Table.{rowFields}
 use Rattle.chunk.specs.Refusals.{Refused}
 use Rattle.verdict.specs.Image.{Image}
 use Rattle.listing.specs.Text.{text, same, lines}
-use Rattle.listing.specs.Listing.{decimals, hexWord, Read, stopped, done, andThen, refusedAt, readAs, readLine, readRows, readWords, maxRows, maxWords, readListing}
+use Rattle.listing.specs.Listing.{decimals, hexWord, Read, stopped, done, andThen, refusedAt, readAs, readLine, readRows, readWords, maxListingRows, maxListingWords, readListing}
 use Rattle.listing.specs.Longest.{longestWord, longestRows, longestListing}
 use Rattle.listing.proofs.LineLaws.{same-≡, flatten-lines}
 use Rattle.listing.proofs.FormLaws.{Bounded, named-bounded, decimals-bounded, hexWord-bounded}
@@ -117,7 +117,7 @@ longest-read input i e =
     andThen-done _ _ i q₂ (λ _ e₃ q₃.
     andThen-done _ _ i q₃ (λ rs e₄ q₄.
     andThen-done _ _ i q₄ (λ ws e₅ q₅.
-    let rows = row-bytes (drop 3 ls) 4 maxRows rs e₄ in
+    let rows = row-bytes (drop 3 ls) 4 maxListingRows rs e₄ in
     let after : 3 + suc (length rs) ≡ 4 + length rs = omega arith in
     omega (
       arith,
@@ -131,5 +131,5 @@ longest-read input i e =
       bytes-from 3 (suc (length rs)) (4 + length rs) ls after,
       rows .count,
       rows .bytes,
-      word-bytes (drop (4 + length rs) ls) (5 + length rs) maxWords ws e₅,
+      word-bytes (drop (4 + length rs) ls) (5 + length rs) maxListingWords ws e₅,
     ))))))

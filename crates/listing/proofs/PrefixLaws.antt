@@ -10,7 +10,7 @@ use lib.ListN.{length, take, drop, length-append}
 use Rattle.opcodes.specs.Lists.{elem}
 use Rattle.chunk.specs.Table.{rowFields}
 use Rattle.listing.specs.Text.{text, newline, same, joinFirst, lines}
-use Rattle.listing.specs.Listing.{named, decimals, hexWord, Read, stopped, done, andThen, refusedAt, readAs, readLine, readRows, readWords, maxRows, maxWords, readListing}
+use Rattle.listing.specs.Listing.{named, decimals, hexWord, Read, stopped, done, andThen, refusedAt, readAs, readLine, readRows, readWords, maxListingRows, maxListingWords, readListing}
 use Rattle.listing.specs.Packcheck.{outputText, packcheck}
 use Rattle.listing.specs.Longest.{longestNumbers, longestWord, longestRows, longestListing, inputBytes, DecidedBy}
 use Rattle.listing.proofs.LineLaws.{eqb-swap}
@@ -136,8 +136,8 @@ decided n h input =
     let ls = lines input in
     let first = named-bounded "warnings errors\n" tt in
     let third = named-bounded "depth words constants upvalues stack\n" tt in
-    let words = longestWord * suc maxWords in
-    let rows = longestRows maxRows + words in
+    let words = longestWord * suc maxListingWords in
+    let rows = longestRows maxListingRows + words in
     let c₀ = cut-lines n input in
     andThen-same _ _ _ _ (line-cut first 1 c₀ (omega arith)) (λ a e₁.
     let c₁ = cut-from 0 1 1 (longestNumbers 2 + 37 + rows) ks ls refl c₀ (omega (arith, line-bytes first 1 ls a e₁)) in
@@ -145,10 +145,10 @@ decided n h input =
     let c₂ = cut-from 1 1 2 (37 + rows) ks ls refl c₁ (omega (arith, line-bytes (decimals-bounded 1) 2 (drop 1 ls) ns e₂)) in
     andThen-same _ _ _ _ (line-cut third 3 c₂ (omega arith)) (λ b e₃.
     let c₃ = cut-from 2 1 3 rows ks ls refl c₂ (omega (arith, line-bytes third 3 (drop 2 ls) b e₃)) in
-    andThen-same _ _ _ _ (rows-cut c₃ 4 maxRows (omega arith)) (λ rs e₄.
-    let read = row-bytes (drop 3 ls) 4 maxRows rs e₄ in
+    andThen-same _ _ _ _ (rows-cut c₃ 4 maxListingRows (omega arith)) (λ rs e₄.
+    let read = row-bytes (drop 3 ls) 4 maxListingRows rs e₄ in
     let c₄ = cut-from 3 (suc (length rs)) (4 + length rs) words ks ls (omega arith) c₃ (omega (arith, read .count, read .bytes)) in
-    andThen-same _ _ _ _ (words-cut c₄ (5 + length rs) maxWords (omega arith)) (λ _ _. refl)))))
+    andThen-same _ _ _ _ (words-cut c₄ (5 + length rs) maxListingWords (omega arith)) (λ _ _. refl)))))
 
 -- the program's buffer decides what it writes
 pub long-input : DecidedBy inputBytes

@@ -19,8 +19,8 @@ use Rattle.chunk.proofs.TableLaws.{length-rows}
 use Rattle.verdict.specs.Image.{Image}
 use Rattle.verdict.specs.Check.{checkRefusal}
 use Rattle.listing.specs.Text.{text, same, lines, isDigit, valueOf, isDecimal}
-use Rattle.listing.specs.Listing.{separator, consNumber, decimals, hexWord, done, andThen, refusedAt, readAs, readRows, readWords, maxRows, maxWords, readListing}
-use Rattle.listing.specs.Packcheck.{maxDiagnostics}
+use Rattle.listing.specs.Listing.{separator, consNumber, decimals, hexWord, done, andThen, refusedAt, readAs, readRows, readWords, maxListingRows, maxListingWords, readListing}
+use Rattle.listing.specs.Packcheck.{diagnosticRoom, roleRoom}
 use Rattle.listing.proofs.FormLaws.{cond-some}
 use Rattle.listing.proofs.LongestLaws.{stopped-done, done-≡, andThen-done, readAs-done, row-bytes}
 
@@ -72,8 +72,8 @@ word-count (l ∷ ls) at left ws e =
 -- an image that was read: whole rows, at most 64 of them, and at most 2,048 words
 pub record ReadLengths (i : Image) : Type 0 where
   pub whole-rows : length (i .table) % rowBytes ≡ 0
-  pub row-limit : length (i .table) ≤ rowBytes * maxRows
-  pub word-limit : length (i .words) ≤ 4 * maxWords
+  pub row-limit : length (i .table) ≤ rowBytes * maxListingRows
+  pub word-limit : length (i .words) ≤ 4 * maxListingWords
 
 -- so is every one that was read
 pub read-lengths : (input : List ℕ) (i : Image) → readListing input ≡ done i → ReadLengths i
@@ -85,9 +85,9 @@ read-lengths input i e =
     andThen-done _ _ i q₂ (λ _ e₃ q₃.
     andThen-done _ _ i q₃ (λ rs e₄ q₄.
     andThen-done _ _ i q₄ (λ ws e₅ q₅.
-    let count = row-bytes (drop 3 ls) 4 maxRows rs e₄ .count in
-    let numbers = row-numbers (drop 3 ls) 4 maxRows rs e₄ in
-    let words = word-count (drop (4 + length rs) ls) (5 + length rs) maxWords ws e₅ in
+    let count = row-bytes (drop 3 ls) 4 maxListingRows rs e₄ .count in
+    let numbers = row-numbers (drop 3 ls) 4 maxListingRows rs e₄ in
+    let words = word-count (drop (4 + length rs) ls) (5 + length rs) maxListingWords ws e₅ in
     let table : length (u32Record (flatten rs)) ≡ rowBytes * length rs = omega (arith, length-u32Record (flatten rs), numbers) in
     subst ReadLengths (done-≡ _ i q₅)
     (record { whole-rows = omega arith; row-limit = omega arith; word-limit = omega (arith, length-u32Record ws) }))))))
@@ -127,8 +127,8 @@ module _ (numbers : List ℕ) where
 
 -- ---- of an image that was read
 
--- 1, 4, 5, 6 and 8
-abbrev possible : List ℕ
+-- the refusals that the program can give, but for 9 and 10
+abbrev pub possible : List ℕ
 possible = 1 ∷ 4 ∷ 5 ∷ 6 ∷ 8 ∷ []
 
 module _ (i : Image) (lengths : ReadLengths i) where
@@ -144,9 +144,9 @@ module _ (i : Image) (lengths : ReadLengths i) where
       (λ u. absurd (omega (arith, ltb→lt 4194304 (length (i .words)) u, lengths .word-limit))) t
 
   -- the role buffer holds every word
-  not-7 : imageRefusal (i .table) (i .words) ≡ none → T (ltb (8 * maxWords) (roleBytes * wordTotal (rows (i .table)))) → T (elem 7 possible)
+  not-7 : imageRefusal (i .table) (i .words) ≡ none → T (ltb roleRoom (roleBytes * wordTotal (rows (i .table)))) → T (elem 7 possible)
   not-7 e t =
-      absurd (omega (arith, ltb→lt (8 * maxWords) (roleBytes * wordTotal (rows (i .table))) t, image-kept (i .table) (i .words) e .word-count, lengths .word-limit))
+      absurd (omega (arith, ltb→lt roleRoom (roleBytes * wordTotal (rows (i .table))) t, image-kept (i .table) (i .words) e .word-count, lengths .word-limit))
 
   -- refusals 1 to 6
   image-numbers : Among possible (imageRefusal (i .table) (i .words))
@@ -161,12 +161,12 @@ module _ (i : Image) (lengths : ReadLengths i) where
       among-refuseIf possible _ 6 0 (λ _. tt))))))
 
   -- refusals 1 to 8
-  check-numbers : Among possible (checkRefusal i (8 * maxWords) (16 * maxDiagnostics))
+  check-numbers : Among possible (checkRefusal i roleRoom diagnosticRoom)
   unfolding checkRefusal rolesRefusal tooShort
   check-numbers =
       among-orElse possible _ _ (among-orElse possible _ _ image-numbers (λ e. among-refuseIf possible _ 7 0 (not-7 e)))
       (λ _. among-refuseIf possible _ 8 _ (λ _. tt))
 
 -- the check call gives the program only 1, 4, 5, 6 and 8
-pub refusals : (input : List ℕ) (i : Image) (r : Refused) → readListing input ≡ done i → checkRefusal i (8 * maxWords) (16 * maxDiagnostics) ≡ some r → T (elem (r .number) (1 ∷ 4 ∷ 5 ∷ 6 ∷ 8 ∷ []))
+pub refusals : (input : List ℕ) (i : Image) (r : Refused) → readListing input ≡ done i → checkRefusal i roleRoom diagnosticRoom ≡ some r → T (elem (r .number) possible)
 refusals input i r e q = check-numbers i (read-lengths input i e) r q

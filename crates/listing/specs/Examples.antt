@@ -50,6 +50,7 @@ examples =
     ∷ refusedText "warnings errors\r\n0 0\r\n" "refused 9 1\n"
     ∷ refusedText "warnings errors\n0 0\ndepth words constants upvalues stack\n0 1 0 0 1\n" "refused 9 5\n"
     ∷ refusedListing "0 0\n" "0 1 0 0 1\n" "0080001E\n" "refused 9 6\n"
+    ∷ refusedText "warnings errors\n0 0\ndepth words constants upvalues stack\n" "refused 9 4\n"
     -- 1: no rows. 4 and 5: the row. 6: fewer words than the rows state. 9 comes before them
     ∷ refusedListing "0 0\n" "" "" "refused 1 0\n"
     ∷ refusedListing "0 0\n" "0 0 0 0 0\n2 0 0 0 0\n" "" "refused 4 1\n"

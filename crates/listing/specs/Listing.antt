@@ -87,12 +87,12 @@ readWords at left (l ∷ ls) =
     andThen (readAs at left (hexWord l)) (λ w. andThen more (λ ws. done (w ∷ ws)))
 
 -- "row 65 or word 2,049"
-abbrev pub maxRows : ℕ
-maxRows = 64
+abbrev pub maxListingRows : ℕ
+maxListingRows = 64
 
 -- and so many words
-abbrev pub maxWords : ℕ
-maxWords = 2048
+abbrev pub maxListingWords : ℕ
+maxListingWords = 2048
 
 -- the whole input; lines are counted from 1
 unfoldable pub readListing : List ℕ → Read Image
@@ -101,6 +101,6 @@ readListing input =
     andThen (readLine 1 (named "warnings errors\n") ls) (λ _.
     andThen (readLine 2 (decimals 2) (drop 1 ls)) (λ ns.
     andThen (readLine 3 (named "depth words constants upvalues stack\n") (drop 2 ls)) (λ _.
-    andThen (readRows 4 maxRows (drop 3 ls)) (λ rs.
-    andThen (readWords (5 + length rs) maxWords (drop (4 + length rs) ls)) (λ ws.
+    andThen (readRows 4 maxListingRows (drop 3 ls)) (λ rs.
+    andThen (readWords (5 + length rs) maxListingWords (drop (4 + length rs) ls)) (λ ws.
     done (record { table = u32Record (flatten rs); words = u32Record ws; warnings = getD ns 0 0; errors = getD ns 1 0 }))))))

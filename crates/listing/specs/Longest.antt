@@ -1,10 +1,10 @@
--- The longest input that is read without a refusal, and the program's buffer. Assumes nothing: these are definitions.
+-- The longest input that is read without refusal 9 or 10, and the program's buffer. Assumes nothing: these are definitions.
 use Prim.Native.Nat.{ℕ, _+_, _*_}
 use mathlib.Core.Path.{_≡_}
 use mathlib.Core.List.{List}
 use lib.ListN.{take}
 use Rattle.chunk.specs.Table.{rowFields}
-use Rattle.listing.specs.Listing.{maxRows, maxWords}
+use Rattle.listing.specs.Listing.{maxListingRows, maxListingWords}
 use Rattle.listing.specs.Packcheck.{packcheck}
 
 -- ---- the bytes of a line in form: at most so many
@@ -33,7 +33,7 @@ longestRows rows = longestNumbers rowFields * rows + 5
 
 -- the longest listing that is not refused by 9 or 10
 abbrev pub longestListing : ℕ
-longestListing = longestHead + longestRows maxRows + longestWord * maxWords
+longestListing = longestHead + longestRows maxListingRows + longestWord * maxListingWords
 
 -- the program's buffer, the large one of io: it reads no more bytes of its input
 abbrev pub inputBytes : ℕ

@@ -6,11 +6,12 @@ use mathlib.Core.List.{List, [], _∷_, flatMap, flatten}
 use lib.ListN.{getD}
 use Rattle.chunk.specs.Refusals.{Refused}
 use Rattle.chunk.specs.Calls.{Answer, refused, accepted}
-use Rattle.verdict.specs.Walk.{Verdict, ValidForParser, Incomplete, Invalid, RowDiagnostic}
+use Rattle.chunk.specs.Roles.{roleBytes}
+use Rattle.verdict.specs.Walk.{Verdict, ValidForParser, Incomplete, Invalid, RowDiagnostic, diagnosticBytes}
 use Rattle.verdict.specs.Image.{Image, diagnostics}
 use Rattle.verdict.specs.Check.{Checked, checkAnswer}
 use Rattle.listing.specs.Text.{text, line, decimal, integer}
-use Rattle.listing.specs.Listing.{Read, stopped, done, maxWords, readListing}
+use Rattle.listing.specs.Listing.{Read, stopped, done, maxListingWords, readListing}
 
 -- the names of the codes, from 1
 unfoldable pub codeNames : List String
@@ -38,7 +39,7 @@ unfoldable pub diagnosticText : RowDiagnostic → List ℕ
 diagnosticText d =
     line (decimal (d .row) ∷ integer (d .diagnostic .pc) ∷ text (codeName (d .diagnostic .code)) ∷ integer (d .diagnostic .value) ∷ [])
 
--- "a names line, one line a finding, a second names line, and the verdict's name with the number of findings"
+-- "a names line, one line a finding with the code's name, a second names line, and the verdict's name with the number of findings"
 unfoldable pub resultText : List RowDiagnostic → Checked → List ℕ
 resultText ds c =
     flatten (
@@ -54,14 +55,22 @@ unfoldable pub answerText : List RowDiagnostic → Answer Checked → List ℕ
 answerText ds (refused r) = refusalText r
 answerText ds (accepted c) = resultText ds c
 
--- "The program lends 2,048 finding records", and roles for all the words that it reads
+-- "The program lends 2,048 finding records"
 abbrev pub maxDiagnostics : ℕ
 maxDiagnostics = 2048
+
+-- their bytes
+abbrev pub diagnosticRoom : ℕ
+diagnosticRoom = diagnosticBytes * maxDiagnostics
+
+-- and those of roles for all the words that it reads
+abbrev pub roleRoom : ℕ
+roleRoom = roleBytes * maxListingWords
 
 -- what was read, as the output
 unfoldable pub outputText : Read Image → List ℕ
 outputText (stopped r) = refusalText r
-outputText (done i) = answerText (diagnostics i) (checkAnswer i (8 * maxWords) (16 * maxDiagnostics))
+outputText (done i) = answerText (diagnostics i) (checkAnswer i roleRoom diagnosticRoom)
 
 -- "reads standard input": the whole output for a whole input
 unfoldable pub packcheck : List ℕ → List ℕ

@@ -70,7 +70,7 @@ isDecimal ds = ltb 0 (length ds) && (eqb (length ds) 1 || not (eqb (getD ds 0 0)
 
 -- ---- numbers, written
 
--- at most `most` decimal digits of a number, no leading zero
+-- the last `most` decimal digits of a number: all of them, with no leading zero, where it is below 10 ^ most
 unfoldable pub digits : ℕ → ℕ → List ℕ
 digits zero n = []
 digits (suc most) n = let front = digits most (n / 10) in cond (ltb n 10) [] front ++ ((48 + n % 10) ∷ [])

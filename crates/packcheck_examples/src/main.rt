@@ -1,5 +1,5 @@
 // Stored listings, by the names of their files as arguments: each name, and what packcheck writes for that input.
-use check_listing::check::OUTPUT_BYTES;
+use check_listing::check::OUTPUT_LEN;
 use check_listing::check::check_listing;
 
 fn main() {
@@ -25,7 +25,7 @@ fn check_file(i: usize) {
 }
 
 fn print_check(input: &[u8]) {
-    let mut output = [0u8; OUTPUT_BYTES];
+    let mut output = [0u8; OUTPUT_LEN];
     let end = check_listing(input, &mut output);
     io::write_all(1, &output[..end]);
 }

@@ -1,7 +1,7 @@
 -- Every diagnostic of an accepted image is one that four i32 hold: its row is one of the table's, its code is 1 to 17. Assumes nothing.
 use Prim.Native.Nat.{ℕ, suc, _+_, _-_, _^_, _≤_, _<_, min}
 use native.Mathlib.Omega.{arith}
-use mathlib.Core.Path.{_≡_, refl, ap, subst}
+use mathlib.Core.Path.{_≡_, refl, subst}
 use mathlib.Core.Bool.{Bool, true, false, _&&_, _||_, cond}
 use mathlib.Core.List.{List, [], _∷_, _++_, map, flatMap, foldl}
 use mathlib.Core.Option.{none}
@@ -52,18 +52,6 @@ signed-bits-negsuc n h = (refl, omega arith, omega arith)
 pub signed-bits-below : (z : ℤ) → Signed32 z → i32Bits z < 2 ^ 32
 signed-bits-below (pos n) h = omega (arith, signed-bits-pos n h .1)
 signed-bits-below (negsuc n) h = signed-bits-negsuc n h .2
-
--- read back, without the highest bit
-pub signed-read-pos : (z : ℤ) → Signed32 z → i32Bits z < 2 ^ 31 → z ≡ pos (i32Bits z)
-unfolding i32Bits
-signed-read-pos (pos n) h l = refl
-signed-read-pos (negsuc n) h l = absurd (omega (arith, signed-bits-negsuc n h .1))
-
--- and with it
-pub signed-read-negsuc : (z : ℤ) → Signed32 z → 2 ^ 31 ≤ i32Bits z → z ≡ negsuc (2 ^ 32 - suc (i32Bits z))
-unfolding i32Bits
-signed-read-negsuc (pos n) h l = absurd (omega arith)
-signed-read-negsuc (negsuc n) h l = ap negsuc (omega arith)
 
 -- a difference of two naturals
 sub-signed : (a b : ℕ) → a < 2 ^ 31 → b ≤ 2 ^ 31 → Signed32 (subℕ a b)

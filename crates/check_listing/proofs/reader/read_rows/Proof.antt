@@ -5,7 +5,7 @@ use borrow.Author.Needs.{needs}
 use mathlib.Core.Path.{_≡_, refl, sym, _∙_}
 use lib.ListN.{drop, length, take}
 use Rattle.chunk.specs.Table.{rowBytes}
-use Rattle.listing.specs.Listing.{maxRows}
+use Rattle.listing.specs.Listing.{maxListingRows}
 use Rattle.listing.specs.Text.{lines, text as textOf}
 use Rattle.check_listing.specs.Contracts.{RowsFit, readBody, rowsThen}
 use Rattle.check_listing.proofs.LinesLaws.{line-moves}
@@ -14,7 +14,7 @@ use Rattle.check_listing.proofs.reader.read_rows.Statement.{statement}
 use Rattle.check_listing.proofs.reader.read_rows.Tie as tie
 
 abbrev Inv-loop : tie.InvT-loop
-Inv-loop text start protos₀ at₀ rows₀ t8 protos at rows = (rows ≤ maxRows) × (at ≤ length text) × (length protos ≡ length protos₀) × ((warnings errors : ℕ) → readBody (lines (drop start text)) warnings errors ≡ bodyFrom rows (take (rowBytes * rows) protos) (lines (drop at text)) warnings errors)
+Inv-loop text start protos₀ at₀ rows₀ t8 protos at rows = (rows ≤ maxListingRows) × (at ≤ length text) × (length protos ≡ length protos₀) × ((warnings errors : ℕ) → readBody (lines (drop start text)) warnings errors ≡ bodyFrom rows (take (rowBytes * rows) protos) (lines (drop at text)) warnings errors)
 
 abbrev μ-loop : tie.MeasureT-loop
 μ-loop text start protos₀ at₀ rows₀ t8 protos at rows = length text - at

@@ -5,7 +5,7 @@ use borrow.Author.Needs.{needs}
 use mathlib.Core.Path.{_≡_, refl, sym, ap, _∙_}
 use mathlib.Core.List.{List}
 use lib.ListN.{drop, length, take}
-use Rattle.listing.specs.Listing.{maxWords}
+use Rattle.listing.specs.Listing.{maxListingWords}
 use Rattle.listing.specs.Text.{lines}
 use Rattle.check_listing.specs.Contracts.{WordsFit, numberOf, readCode, wordsThen}
 use Rattle.check_listing.proofs.LinesLaws.{line-moves}
@@ -14,7 +14,7 @@ use Rattle.check_listing.proofs.reader.read_words.Statement.{statement}
 use Rattle.check_listing.proofs.reader.read_words.Tie as tie
 
 abbrev Inv-loop : tie.InvT-loop
-Inv-loop text start line words₀ at₀ count₀ words at count = (count ≤ maxWords) × (at ≤ length text) × (length words ≡ length words₀) × ((table : List ℕ) (warnings errors : ℕ) → readCode line (lines (drop start text)) table warnings errors ≡ codeFrom line count (take (4 * count) words) (lines (drop at text)) table warnings errors)
+Inv-loop text start line words₀ at₀ count₀ words at count = (count ≤ maxListingWords) × (at ≤ length text) × (length words ≡ length words₀) × ((table : List ℕ) (warnings errors : ℕ) → readCode line (lines (drop start text)) table warnings errors ≡ codeFrom line count (take (4 * count) words) (lines (drop at text)) table warnings errors)
 
 abbrev μ-loop : tie.MeasureT-loop
 μ-loop text start line words₀ at₀ count₀ words at count = length text - at

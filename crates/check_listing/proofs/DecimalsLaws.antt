@@ -8,7 +8,7 @@ use mathlib.Core.Bool.{Bool, true, false, _&&_, cond}
 use mathlib.Core.List.{List, [], _∷_, _++_, append-assoc, append-nil}
 use mathlib.Core.Option.{Option, none, some}
 use lib.Dec.{T, eqb, ltb}
-use lib.ListN.{length, getD, take, drop, set, List·getD-eq-default}
+use lib.ListN.{length, getD, take, drop, set, List·getD-eq-default, drop-of-length-le}
 use lib.Seq.{drop-drop, getD-drop, take-suc-set}
 use borrow.Author.Tests.{eq-eqb, ne-eqb, eqb-true, eqb-false, ltb-true, ltb-false}
 use Rattle.opcodes.specs.Lists.{takeWhile}
@@ -16,7 +16,7 @@ use Rattle.listing.specs.Listing.{decimals, consNumber, separator}
 use Rattle.listing.specs.Text.{isDigit, isDecimal, valueOf}
 use Rattle.check_listing.specs.Contracts.{decimalOf, numberOf, numbersOf}
 use Rattle.check_listing.specs.declared.numbers.Number.the-variants.{Value, Malformed}
-use Rattle.check_listing.proofs.ScanLaws.{next, past}
+use Rattle.check_listing.proofs.ScanLaws.{next}
 
 -- numbers before those of the rest of the line
 unfoldable pub parsed : List ℕ → Option (List ℕ) → Option (List ℕ)
@@ -141,5 +141,5 @@ decimals-last count i at line numbers h k inside inv =
     sym (inv ∙ ap (λ (n : ℕ). parsed (take i numbers) (decimals n (drop at line))) none-left ∙ ap (λ (n : ℕ). parsed (take n numbers) (decimals 0 (drop at line))) same ∙ go (eqb at (length line)) refl)
   where
     go : (b : Bool) → eqb at (length line) ≡ b → parsed (take count numbers) (decimals 0 (drop at line)) ≡ numbersOf b (take count numbers)
-    go true e = let ended : length line ≤ at = le-of-eq (sym (eqb-true at (length line) e)) in rw (past line at ended) (ap some (append-nil (take count numbers)))
+    go true e = let ended : length line ≤ at = le-of-eq (sym (eqb-true at (length line) e)) in rw (drop-of-length-le line ended) (ap some (append-nil (take count numbers)))
     go false e = let apart = eqb-false at (length line) e in rw (next line at (omega arith)) refl

@@ -7,13 +7,13 @@ use mathlib.Core.Bool.{Bool, true, false, cond}
 use mathlib.Core.List.{List, [], _∷_}
 use mathlib.Core.Option.{Option, none}
 use lib.Dec.{eqb}
-use lib.ListN.{length, length-drop, getD, take, drop}
+use lib.ListN.{length, length-drop, getD, take, drop, drop-of-length-le}
 use lib.Seq.{drop-drop}
 use Rattle.listing.specs.Text.{newline, joinFirst, lines, same}
 use Rattle.listing.specs.Listing.{readAs, readLine}
 use Rattle.check_listing.specs.Contracts.{lineFrom, lineLength}
 use Rattle.check_listing.specs.declared.reader.Line.the-variants.{Ends, Other}
-use Rattle.check_listing.proofs.ScanLaws.{next, past}
+use Rattle.check_listing.proofs.ScanLaws.{next}
 
 -- the first line of a text that has one
 lines-cons : (c : ℕ) (cs : List ℕ) → lines (c ∷ cs) ≡ take (lineLength (c ∷ cs)) (c ∷ cs) ∷ lines (drop (lineLength (c ∷ cs)) (c ∷ cs))
@@ -91,4 +91,4 @@ module _ (text : List ℕ) (at end : ℕ) (ends : end ≡ at + lineLength (drop 
 -- no lines past the end
 pub no-lines : (text : List ℕ) (at : ℕ) → length text ≤ at → lines (drop at text) ≡ []
 unfolding lines
-no-lines text at h = ap lines (past text at h)
+no-lines text at h = ap lines (drop-of-length-le text h)

@@ -1,22 +1,23 @@
 -- Digits, their value, and the numbers of a line. Assumes nothing.
 use Prim.Native.Nat.{ℕ, zero, suc, _+_, _-_, _*_, _^_, _<_, _≤_}
 use native.Mathlib.Omega.{arith}
-use native.Mathlib.Nat.{le-refl, le-trans, le-add-right, le-mul-of-pos-right, le-of-lt, mul-le-mul, mul-le-mul-right, mul-assoc, pow-succ', not-suc-le-zero, pos-of-ne-zero}
+use native.Mathlib.Nat.{le-trans, le-mul-of-pos-right, one-le-pow, le-of-lt, mul-le-mul, mul-le-mul-right, mul-assoc, pow-succ', not-suc-le-zero, pos-of-ne-zero}
 use mathlib.Core.Path.{_≡_, refl, sym, ap, _∙_, subst, subst⁻¹}
 use mathlib.Core.Bool.{Bool, true, false, _&&_, _||_, cond, not}
 use mathlib.Core.List.{List, [], _∷_, foldl}
 use mathlib.Core.Option.{Option}
 use lib.Dec.{T, eqb, ltb, leb}
-use lib.ListN.{length, getD, take, drop}
+use lib.ListN.{length, getD, take, drop, drop-of-length-le}
 use lib.Seq.{length-take-le}
 use borrow.Author.Tests.{lt-ltb, le-ltb, le-leb, lt-leb, leb-true, leb-false, eq-eqb, ne-eqb}
 use Rattle.opcodes.specs.Lists.{every}
 use Rattle.opcodes.proofs.TestLaws.{T-and, T-true, true≢false}
+use Rattle.listing.proofs.LineLaws.{value-least}
 use Rattle.listing.specs.Text.{isDigit, isHexDigit, isDecimal, digitValue, valueOf}
 use Rattle.listing.specs.Listing.{separator, hexWord}
 use Rattle.check_listing.specs.Contracts.{asU32, decimalOf, leadingZero, numberOf}
 use Rattle.check_listing.specs.declared.numbers.Number.the-variants.{Value, Malformed}
-use Rattle.check_listing.proofs.ScanLaws.{next, past}
+use Rattle.check_listing.proofs.ScanLaws.{next}
 
 -- ---- a byte
 
@@ -90,13 +91,11 @@ value-next base n d i ds h e inv = inv ∙ ap (foldl (worth base) n) (next ds i 
 -- past the last
 pub value-last : (base n i : ℕ) (ds : List ℕ) → length ds ≤ i → n < 2 ^ 32 → valueOf base ds ≡ valueFrom base n (drop i ds) → numberOf (Value n) ≡ asU32 (valueOf base ds)
 unfolding valueFrom asU32 numberOf
-value-last base n i ds h k inv = rw (inv ∙ ap (foldl (worth base) n) (past ds i h), lt-ltb n (2 ^ 32) k) refl
+value-last base n i ds h k inv = rw (inv ∙ ap (foldl (worth base) n) (drop-of-length-le ds h), lt-ltb n (2 ^ 32) k) refl
 
 -- digits make no value less
 value-grows : (base n : ℕ) (ds : List ℕ) → 1 ≤ base → n ≤ foldl (worth base) n ds
-value-grows base n [] h = le-refl n
-value-grows base n (d ∷ ds) h =
-    le-trans (le-trans (le-mul-of-pos-right n h) (le-add-right (n * base) (digitValue d))) (value-grows base (n * base + digitValue d) ds h)
+value-grows base n ds h = le-trans (le-mul-of-pos-right n (one-le-pow (length ds) base h)) (value-least base n ds)
 
 -- so that too large a value stays one
 pub value-over : (base n i : ℕ) (ds : List ℕ) → 1 ≤ base → 2 ^ 32 ≤ n → valueOf base ds ≡ valueFrom base n (drop i ds) → numberOf Malformed ≡ asU32 (valueOf base ds)

@@ -1,14 +1,12 @@
 -- A text, byte by byte from an index on: its first line, the bytes that pass a test, and the bytes of two. Assumes nothing.
-use Prim.Native.Nat.{ℕ, zero, suc, _+_, _-_, _<_, _≤_}
-use native.Mathlib.Omega.{arith}
+use Prim.Native.Nat.{ℕ, suc, _+_, _-_, _<_, _≤_}
 use native.Mathlib.Numerals.{add-one}
-use native.Mathlib.Nat.{not-suc-le-zero}
 use mathlib.Core.Path.{_≡_, refl, sym, ap, _∙_}
 use mathlib.Core.Bool.{Bool, true, false, _&&_}
 use mathlib.Core.List.{List, [], _∷_}
 use lib.Dec.{eqb}
-use lib.ListN.{length, getD, drop}
-use lib.Seq.{drop-cons, drop-nil}
+use lib.ListN.{length, getD, drop, drop-of-length-le}
+use lib.Seq.{drop-cons}
 use borrow.Author.Tests.{eq-eqb, ne-eqb}
 use Rattle.opcodes.specs.Lists.{every, takeWhile}
 use Rattle.listing.specs.Text.{newline, same}
@@ -17,12 +15,6 @@ use Rattle.check_listing.specs.Contracts.{lineLength}
 -- the rest of a list that has a next element
 pub next : (l : List ℕ) (i : ℕ) → i < length l → drop i l ≡ getD l i 0 ∷ drop (i + 1) l
 next l i h = drop-cons l i 0 h ∙ ap (λ n. getD l i 0 ∷ drop n l) (sym (add-one i))
-
--- and of one that has none
-pub past : (l : List ℕ) (i : ℕ) → length l ≤ i → drop i l ≡ []
-past [] i h = drop-nil i
-past (x ∷ l) zero h = absurd (not-suc-le-zero h)
-past (x ∷ l) (suc i) h = past l i (omega arith)
 
 -- ---- the first line
 
@@ -36,7 +28,7 @@ line-goes-on l i h e = rw (next l i h, ne-eqb (getD l i 0) newline e) refl
 
 pub line-past : (l : List ℕ) (i : ℕ) → length l ≤ i → lineLength (drop i l) ≡ 0
 unfolding lineLength
-line-past l i h = rw (past l i h) refl
+line-past l i h = rw (drop-of-length-le l h) refl
 
 -- ---- a test
 
@@ -48,7 +40,7 @@ module _ (f : ℕ → Bool) (l : List ℕ) (i : ℕ) where
   while-goes-on h e = rw (next l i h, e) refl
 
   pub while-past : length l ≤ i → length (takeWhile f (drop i l)) ≡ 0
-  while-past h = rw (past l i h) refl
+  while-past h = rw (drop-of-length-le l h) refl
 
   pub every-fails : i < length l → f (getD l i 0) ≡ false → every f (drop i l) ≡ false
   every-fails h e = rw (next l i h, e) refl
@@ -57,7 +49,7 @@ module _ (f : ℕ → Bool) (l : List ℕ) (i : ℕ) where
   every-goes-on h e = rw (next l i h, e) refl
 
   pub every-past : length l ≤ i → every f (drop i l) ≡ true
-  every-past h = rw (past l i h) refl
+  every-past h = rw (drop-of-length-le l h) refl
 
 -- ---- two texts
 
@@ -83,4 +75,4 @@ module _ (a b : List ℕ) (i : ℕ) where
 
   pub same-past : length a ≤ i → length b ≤ i → same (drop i a) (drop i b) ≡ true
   unfolding same
-  same-past h k = rw (past a i h, past b i k) refl
+  same-past h k = rw (drop-of-length-le a h, drop-of-length-le b k) refl

@@ -1,6 +1,6 @@
 -- Laws of lines, of texts that are the same, and of digits. Assumes nothing.
 use Prim.Native.Nat.{ℕ, zero, suc, _+_, _*_, _^_, _≤_, _<_}
-use native.Mathlib.Nat.{pow-succ', mul-le-mul-right, pow-le-pow-right}
+use native.Mathlib.Nat.{pow-succ', mul-le-mul-right, pow-le-pow-right, pow-zero, le-trans, le-add-right, mul-assoc}
 use native.Mathlib.Omega.{arith}
 use mathlib.Core.Path.{_≡_, refl, sym, _∙_, ap, ap₂, subst}
 use mathlib.Core.Bool.{Bool, true, false, not, _&&_, _||_, cond}
@@ -69,10 +69,13 @@ takeWhile-every f (x ∷ xs) = go (f x) refl (takeWhile-every f xs)
     go true e t = rw e t
     go false e t = tt
 
--- digits after a value multiply it
-valueFrom-least : (n : ℕ) (ds : List ℕ) → n * 10 ^ length ds ≤ foldl (λ (n d : ℕ). n * 10 + digitValue d) n ds
-valueFrom-least n [] = omega arith
-valueFrom-least n (d ∷ ds) = rw (pow-succ' 10 (length ds)) (omega (arith, valueFrom-least (n * 10 + digitValue d) ds))
+-- digits after a value multiply it, at any base
+pub value-least : (base n : ℕ) (ds : List ℕ) → n * base ^ length ds ≤ foldl (λ (n d : ℕ). n * base + digitValue d) n ds
+value-least base n [] = rw (pow-zero base) (omega arith)
+value-least base n (d ∷ ds) =
+    le-trans
+    (rw (pow-succ' base (length ds), ← mul-assoc n base (base ^ length ds)) (mul-le-mul-right (base ^ length ds) (le-add-right (n * base) (digitValue d))))
+    (value-least base (n * base + digitValue d) ds)
 
 -- a digit that is not 0 has a value
 digitValue-least : (d : ℕ) → T (isDigit d) → T (not (eqb d 48)) → 0 < digitValue d
@@ -103,7 +106,7 @@ decimal-digits (d ∷ e ∷ ds) t u =
     let tests = T-and (ltb 0 l && (eqb l 1 || not (eqb d 48))) (ltb value (2 ^ 32)) u in
     let first : T (not (eqb d 48)) = by-or (eqb l 1) (not (eqb d 48)) (λ v. absurd (two (eqb→eq l 1 v))) (λ v. v) (T-and (ltb 0 l) (eqb l 1 || not (eqb d 48)) (tests .0) .1) in
     let nonzero : 0 < digitValue d = digitValue-least d (T-and (isDigit d) (every isDigit (e ∷ ds)) t .0) first in
-    few-digits (0 * 10 + digitValue d) (suc (length ds)) value (omega arith) (valueFrom-least (0 * 10 + digitValue d) (e ∷ ds)) (ltb→lt value (2 ^ 32) (tests .1))
+    few-digits (0 * 10 + digitValue d) (suc (length ds)) value (omega arith) (value-least 10 (0 * 10 + digitValue d) (e ∷ ds)) (ltb→lt value (2 ^ 32) (tests .1))
   where
     two : suc (suc (length ds)) ≡ 1 → ⊥
     two q = omega arith

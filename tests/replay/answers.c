@@ -396,6 +396,7 @@ static void read_all_records(struct answers *answers, struct image *image)
     find_verdict(answers, image);
 }
 
+/* The lines before the answers. */
 static void read_image(struct answers *answers, struct image *image)
 {
     *image = (struct image){0};
@@ -404,10 +405,27 @@ static void read_image(struct answers *answers, struct image *image)
     image->table = read_bytes(answers, "table ", "tail ", &FIELD);
     image->words = read_bytes(answers, "words ", "wtail ", &WORD);
     read_buffers(answers, image);
+}
+
+static void read_answers(struct answers *answers, struct image *image)
+{
     read_outcomes(answers, image);
     if (image->has_records)
         read_all_records(answers, image);
     end_line(answers);
+}
+
+/* Passes over the lines up to a blank one, and over this. */
+static void skip_answers(struct answers *answers)
+{
+    while (!take(answers, "\n")) {
+        const char *end = strchr(answers->at, '\n');
+        if (end == NULL)
+            malformed(answers, "no blank line after the image");
+        answers->at = end + 1;
+        answers->line++;
+    }
+    answers->line++;
 }
 
 /* Ends the program, for a file that cannot be read. */
@@ -459,6 +477,16 @@ bool answers_next(struct answers *answers, struct image *image)
     if (answers->at == answers->end)
         return false;
     read_image(answers, image);
+    read_answers(answers, image);
+    return true;
+}
+
+bool answers_next_image(struct answers *answers, struct image *image)
+{
+    if (answers->at == answers->end)
+        return false;
+    read_image(answers, image);
+    skip_answers(answers);
     return true;
 }
 

@@ -65,6 +65,9 @@ void answers_open(struct answers *answers, const char *path);
 /* Reads the next image, to be released by image_release; false at the end of the file. */
 bool answers_next(struct answers *answers, struct image *image);
 
+/* The same without the image's answers: there may be none, and they are not looked at. */
+bool answers_next_image(struct answers *answers, struct image *image);
+
 void answers_close(struct answers *answers);
 
 void image_release(struct image *image);

@@ -3,8 +3,12 @@
 -- RETURN, one upvalue and vararg 0 unless said. luad: its diagnostics, row pc code value each; none unless said.
 local CHILD = { words = "0080001e", upvalues = 1, vararg = 0 }
 
+-- return f(true), but for a SETLIST after the TAILCALL: local t = {f(true)} return t
+local TAILCALL = "0000000a 00000045 00800082 0100005d 00004022 0100001e"
+
 return {
-    -- Lua refuses it as bad code; `rule` is the line in ldebug.c. With the fields of `but` in place of its own Lua loads it.
+    -- Lua refuses it as bad code; `rule` is the line in ldebug.c. With the fields of `but` in place of its own Lua loads it. `gives`: the
+    -- values where it is called without that check.
     only_lua = {
         { name = "move-c", rule = 306, words = "00004000 0080001e", but = { words = "00000000 0080001e" } },
         { name = "loadnil-c", rule = 306, words = "00004003 0080001e", but = { words = "00000003 0080001e" } },
@@ -27,7 +31,10 @@ return {
         { name = "lt-without-jmp", rule = 371, words = "00000018 00000000 0080001e", but = { words = "00000018 7fffc016 0080001e" } },
         { name = "le-without-jmp", rule = 371, words = "00000019 00000000 0080001e", but = { words = "00000019 7fffc016 0080001e" } },
         { name = "test-without-jmp", rule = 371, words = "0000001a 00000000 0080001e", but = { words = "0000001a 7fffc016 0080001e" } },
-        { name = "test-before-newtable", rule = 371, words = "0000001a 8000000a 0080001e 00800002 0100001e", but = { words = "0000001a 80000016 0080001e 00800002 0100001e" } },
+        {
+            name = "test-before-newtable", rule = 371, words = "0000001a 8000000a 0080001e 00800002 0100001e", gives = "true",
+            but = { words = "0000001a 80000016 0080001e 00800002 0100001e" },
+        },
         { name = "testset-without-jmp", rule = 371, words = "0000001b 00000000 0080001e", but = { words = "0000001b 7fffc016 0080001e" } },
         { name = "tforloop-without-jmp", rule = 371, words = "00004021 00000000 0080001e", stack = 4, but = { words = "00004021 7fffc016 0080001e" } },
         { name = "eq-skips-off-the-end", rule = 370, words = "00000017 0080001e", but = { words = "00000017 7fffc016 0080001e" } },
@@ -92,7 +99,7 @@ return {
         { name = "code-12-at-binding-word", words = "00000024 01000000 0080001e", children = { CHILD }, luad = "0 1 12 2" },
     },
 
-    -- Lua loads it, and it gives these values when it is called; `globals`, where it uses any
+    -- Lua loads it, and it gives these values when it is called; `f`: the only global there is
     executed = {
         { name = "loadbool-c-2-skips", words = "00008002 0080001e 0100001e", gives = "false" },
         { name = "loadbool-c-256-skips", words = "00400002 0080001e 0100001e", gives = "false" },
@@ -105,10 +112,10 @@ return {
         { name = "jmp-runs-binding-word", words = "00800042 80000016 00000024 00800000 0100001e", children = { CHILD }, gives = "true", luad = "0 1 6 3" },
         { name = "loadbool-runs-binding-word", words = "00800042 00004002 00000024 00800000 0100001e", children = { CHILD }, gives = "true", luad = "0 1 6 3" },
         { name = "loadbool-runs-extra-word", words = "00008002 00800022 00800002 0100001e", gives = "true", luad = "0 0 6 2" },
-        { name = "tforloop-c-1-sets-more", words = "00000005 00800042 00004021 7fffc016 0100011e", constants = { "f" }, stack = 6, globals = { f = type }, gives = "true" },
-        { name = "tforloop-beyond-stack", words = "00000005 00004021 7fffc016 0080001e", constants = { "f" }, stack = 4, globals = { f = type }, gives = "" },
-        { name = "tailcall-of-c", words = "0000000a 00000045 00800082 0100005d 00004022 0100001e", constants = { "f" }, stack = 3, globals = { f = type }, gives = "{boolean}" },
-        { name = "tailcall-of-lua", words = "0000000a 00000045 00800082 0100005d 00004022 0100001e", constants = { "f" }, stack = 3, globals = { f = function(v) return type(v) end }, gives = "boolean" },
+        { name = "tforloop-c-1-sets-more", words = "00000005 00800042 00004021 7fffc016 0100011e", constants = { "f" }, stack = 6, f = type, gives = "true" },
+        { name = "tforloop-beyond-stack", words = "00000005 00004021 7fffc016 0080001e", constants = { "f" }, stack = 4, f = type, gives = "" },
+        { name = "tailcall-of-c", words = TAILCALL, constants = { "f" }, stack = 3, f = type, gives = "{boolean}" },
+        { name = "tailcall-of-lua", words = TAILCALL, constants = { "f" }, stack = 3, f = function(v) return type(v) end, gives = "boolean" },
         { name = "loadnil-b-below-a", words = "00800002 00800042 00000043 0180001e", gives = "nil true" },
         { name = "return-b-0", words = "0000001e", gives = "nil nil" },
         { name = "jmp-past-extra-word", words = "80004016 00800022 00000022 0080001e", gives = "" },

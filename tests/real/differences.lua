@@ -2,6 +2,7 @@
 --   load        loads every case from a binary chunk; prints those that are not answered as stated, and how many were tried
 --   images      prints every case as an image in the format of tests/answers, with the check's answer as stated
 --   chunk NAME  prints a case's binary chunk
+--   rules       for a Lua whose check tells the rule and refuses nothing: prints what to expect, loads, and calls what gives something
 --   deep DEPTH  prints a binary chunk whose functions stand in one another down to this depth
 local here = arg[0]:match("^(.*/)") or ""
 local cases = dofile(here .. "cases.lua")
@@ -80,7 +81,7 @@ local function all_shown(_, ...)
     return table.concat(list, " ")
 end
 
-local function call(loaded, globals) return all_shown(pcall(setfenv(loaded, globals or {}))) end
+local function call(loaded, f) return all_shown(pcall(setfenv(loaded, { f = f }))) end
 
 local tried, wrong = 0, 0
 
@@ -107,7 +108,7 @@ TRY.only_luad = TRY.loaded
 function TRY.executed(case)
     local answer, loaded = load(case)
     expect(case, "", "loaded", answer)
-    if answer == "loaded" then expect(case, ", called", case.gives, call(loaded, case.globals)) end
+    if answer == "loaded" then expect(case, ", called", case.gives, call(loaded, case.f)) end
 end
 
 local function each(visit)
@@ -168,6 +169,18 @@ local function named(name)
     return assert(found, "no such case")
 end
 
+-- Where the check only tells which rule is broken: its lines, on standard error, come after the case's
+local function tell_rules()
+    for _, case in ipairs(cases.only_lua) do
+        io.stderr:write(("case %s %d\n"):format(case.name, case.rule))
+        local answer, loaded = load(case)
+        expect(case, ", without the check", "loaded", answer)
+        if case.gives then expect(case, ", called", case.gives, call(loaded)) end
+    end
+    print(("%d answers of Lua without its check, of which %d are not as stated"):format(tried, wrong))
+    return wrong == 0
+end
+
 local function nested(depth)
     local case = { words = "0080001e" }
     for _ = 1, depth do case = { words = "0080001e", children = { case } } end
@@ -177,6 +190,8 @@ end
 local what, which = ...
 if what == "load" then
     os.exit(try_all() and 0 or 1)
+elseif what == "rules" then
+    os.exit(tell_rules() and 0 or 1)
 elseif what == "images" then
     each(print_image)
 elseif what == "chunk" then
@@ -184,5 +199,5 @@ elseif what == "chunk" then
 elseif what == "deep" then
     io.write(chunk_of(nested(tonumber(which))))
 else
-    error("load, images, chunk NAME or deep DEPTH")
+    error("load, rules, images, chunk NAME or deep DEPTH")
 end

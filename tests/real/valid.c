@@ -1,6 +1,6 @@
 /* Checks images of compiled scripts with the library: each must be accepted, ValidForParser, without diagnostics.
  *     valid FILE..            every image of the files, in the format of tests/answers; answers are not looked at
- *     valid all FILE..        also: together they have every opcode, a SETLIST with C = 0, and either kind of binding word
+ *     valid all FILE..        also: together they have every opcode, a SETLIST with C = 0, and both binding words
  *     valid same FILE STORED  the two files have the same images, in the same order
  * Exit status: 0 so it is, 1 it is not, 2 a file is unreadable or malformed. */
 #include <stdio.h>

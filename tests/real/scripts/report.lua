@@ -1,5 +1,5 @@
 -- A report of a pack, in which everything is joined or turned round
-local function percent(part, whole) return -(-part * 100 / whole) end
+local function percent(value, whole) return -(-value * 100 / whole) end
 
 local function bar(share)
     local full = math.floor(share / 10)

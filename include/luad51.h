@@ -4,17 +4,25 @@
  *   prototype table  a row a prototype, in preorder, of LUAD51_ROW_BYTES: five u32
  *                      depth      0 in row 0; later from 1 to the depth of the row before plus 1
  *                      words      number of the prototype's instruction words
- *                      constants  at most 2147483647
- *                      upvalues   at most 255
- *                      stack      at most 255
+ *                      constants  at most LUAD51_MAX_CONSTANTS
+ *                      upvalues   at most LUAD51_MAX_UPVALUES
+ *                      stack      at most LUAD51_MAX_STACK
  *   words            the words of all prototypes end to end, in row order, LUAD51_WORD_BYTES each: one u32
  * Child k of a row, from 0, is the k-th later row that is one deeper, before any row of its own depth or less. A word's
  * pc is its index in its prototype, from 0.
  *
- * Slices and buffers may have any content and any length. They must not overlap. A pointer must not be null: for an
- * empty slice or buffer pass any valid pointer with length 0.
- * Nothing is allocated, nothing is kept after a call, and there is no global state: any number of threads may call at
- * the same time, each with buffers of its own.
+ * Slices and buffers may have any content and any length, and begin at any address. What the caller owes:
+ *   lengths   all bytes of a slice can be read, and all bytes of a buffer also written
+ *   overlap   no two of a call's slices and buffers have a byte in common
+ *   pointers  none is null, not even with length 0. With length 0 any other valid pointer will do, into an object or
+ *             one past its end: nothing is read or written through it. Empty ones overlap nothing: they may have the
+ *             same pointer, or point into another slice or buffer of the call, or to its end.
+ *   others    during a call nothing else writes its slices and buffers, or reads its buffers
+ * A call writes to its buffers and to nothing else. Nothing is allocated, nothing is kept after a call, there is no
+ * global state, and no function of the C library is called: any number of threads and signal handlers may call at the
+ * same time, each with buffers of its own; they may share an image, which is only read.
+ * The archive is for x86-64 with the System V calling convention, as on Linux.
+ *
  * A call takes at most LUAD51_STACK_BYTES of stack. Only the search for a child of a CLOSURE takes much: it goes one
  * call deeper for each row that it passes, 48 bytes each as compiled for x86-64. The check also goes one call deeper for
  * each level of nesting.
@@ -48,8 +56,16 @@ extern "C" {
 #define LUAD51_MAX_ROWS 16384
 #define LUAD51_MAX_WORDS 1048576
 #define LUAD51_MAX_DEPTH 199
-#define LUAD51_MAX_BINDINGS 4177920  /* LUAD51_MAX_ROWS rows of 255 upvalues */
-#define LUAD51_MAX_DIAGNOSTICS 10255 /* 9999 and a word that has 256 */
+#define LUAD51_MAX_CONSTANTS 2147483647
+#define LUAD51_MAX_UPVALUES 255
+#define LUAD51_MAX_STACK 255
+
+/* Most records that a call can have; of role records it is LUAD51_MAX_WORDS. */
+#define LUAD51_MAX_BINDINGS 4177920  /* LUAD51_MAX_ROWS rows of LUAD51_MAX_UPVALUES */
+#define LUAD51_MAX_DIAGNOSTICS 10255 /* LUAD51_DIAGNOSTIC_LIMIT - 1, and a word that has 256 */
+
+/* Incoming and new diagnostics together with which luad51_check ends. */
+#define LUAD51_DIAGNOSTIC_LIMIT 10000
 
 /* Sizes in bytes. */
 #define LUAD51_ROW_BYTES 20
@@ -104,6 +120,13 @@ enum luad51_code {
     L51_CLOSURE_002 = 17   /* binding word that is neither MOVE nor GETUPVAL; value: its opcode, or -1 above 37 */
 };
 
+/* Compilers that know how warn of a call with a null pointer, and of a result that is not looked at. */
+#ifdef __GNUC__
+#define LUAD51_CALL __attribute__((nonnull, warn_unused_result))
+#else
+#define LUAD51_CALL
+#endif
+
 /* Writes the role of every word, in the order of the words. A record is two i32, LUAD51_ROLE_BYTES together:
  *   -1     -1     an instruction
  *   owner  index  the binding word of upvalue `index` that follows the CLOSURE at pc `owner` of the same prototype
@@ -112,6 +135,7 @@ enum luad51_code {
  * word, as far as the prototype has words; other words have none. Binding words and extra words are never read as
  * CLOSURE or SETLIST.
  */
+LUAD51_CALL
 uint64_t luad51_roles(const uint8_t *protos, size_t protos_len, const uint8_t *words, size_t words_len,
                       uint8_t *roles, size_t roles_len);
 
@@ -125,6 +149,7 @@ uint64_t luad51_roles(const uint8_t *protos, size_t protos_len, const uint8_t *w
  * parent has words. A binding word of another opcode leaves the record as it is; a later CLOSURE of the same child
  * overwrites it. Row 0 is nobody's child: nothing binds its upvalues.
  */
+LUAD51_CALL
 uint64_t luad51_bindings(const uint8_t *protos, size_t protos_len, const uint8_t *words, size_t words_len,
                          uint8_t *roles, size_t roles_len, uint8_t *bindings, size_t bindings_len);
 
@@ -133,12 +158,13 @@ uint64_t luad51_bindings(const uint8_t *protos, size_t protos_len, const uint8_t
  * (enum luad51_code), value. The pc is that of the word, of a binding word where this is wrong, or -1.
  * They stand in row order: of a row first L51_CLOSURE_001 or L51_SETLIST_001, then L51_STACK_001, then those of its
  * words by pc, a word's own by code and then, of a CLOSURE, those of its binding words by pc.
- * The check ends before its end, with the limit reached, where incoming and new diagnostics together are 10000 or more
- * before a row or a word; a word's own are never cut. So there are at most LUAD51_MAX_DIAGNOSTICS new ones, and a
- * buffer for as many is never too short.
+ * The check ends before its end, with the limit reached, where incoming and new diagnostics together are
+ * LUAD51_DIAGNOSTIC_LIMIT or more before a row or a word; a word's own are never cut. So there are at most
+ * LUAD51_MAX_DIAGNOSTICS new ones, and a buffer for as many is never too short.
  * With a buffer for LUAD51_MAX_DIAGNOSTICS records or more, and where there are no diagnostics or they do not fit, the
  * image is walked once; otherwise twice, to count the diagnostics and to write them.
  */
+LUAD51_CALL
 uint64_t luad51_check(const uint8_t *protos, size_t protos_len, const uint8_t *words, size_t words_len,
                       uint32_t warnings, uint32_t errors, uint8_t *roles, size_t roles_len, uint8_t *diagnostics,
                       size_t diagnostics_len);
@@ -159,6 +185,67 @@ static inline uint32_t luad51_figure(uint64_t result)
 static inline uint32_t luad51_verdict(uint64_t result)
 {
     return result >> 40 & 0xff;
+}
+
+/* Whether a result of luad51_check is a pass: accepted, and LUAD51_VALID_FOR_PARSER. Nothing else is one. */
+static inline int luad51_passed(uint64_t result)
+{
+    return luad51_refusal(result) == LUAD51_ACCEPTED && luad51_verdict(result) == LUAD51_VALID_FOR_PARSER;
+}
+
+/* The i32 whose four bytes begin here, at any address. */
+static inline int32_t luad51_i32(const uint8_t *at)
+{
+    int32_t highest = at[3] < 128 ? at[3] : at[3] - 256;
+    return highest * 16777216 + at[2] * 65536 + at[1] * 256 + at[0];
+}
+
+/* Writes the four bytes of a u32, as slices have them, at any address. */
+static inline void luad51_put_u32(uint8_t *at, uint32_t value)
+{
+    for (int i = 0; i < 4; i++, value >>= 8)
+        at[i] = value & 0xff;
+}
+
+/* Records as numbers. They are not laid over a buffer: record i, from 0, is read from it by the functions below. */
+struct luad51_role {
+    int32_t owner;
+    int32_t index;
+};
+
+struct luad51_binding {
+    int32_t instack;
+    int32_t index;
+    int32_t pc;
+};
+
+struct luad51_diagnostic {
+    int32_t row;
+    int32_t pc;
+    int32_t code;
+    int32_t value;
+};
+
+static inline struct luad51_role luad51_role_at(const uint8_t *roles, size_t i)
+{
+    const uint8_t *at = roles + LUAD51_ROLE_BYTES * i;
+    struct luad51_role role = {luad51_i32(at), luad51_i32(at + 4)};
+    return role;
+}
+
+static inline struct luad51_binding luad51_binding_at(const uint8_t *bindings, size_t i)
+{
+    const uint8_t *at = bindings + LUAD51_BINDING_BYTES * i;
+    struct luad51_binding binding = {luad51_i32(at), luad51_i32(at + 4), luad51_i32(at + 8)};
+    return binding;
+}
+
+static inline struct luad51_diagnostic luad51_diagnostic_at(const uint8_t *diagnostics, size_t i)
+{
+    const uint8_t *at = diagnostics + LUAD51_DIAGNOSTIC_BYTES * i;
+    struct luad51_diagnostic diagnostic = {luad51_i32(at), luad51_i32(at + 4), luad51_i32(at + 8),
+                                           luad51_i32(at + 12)};
+    return diagnostic;
 }
 
 #ifdef __cplusplus

@@ -439,7 +439,13 @@ static void most_words(void)
         expect_role(&image, -1, -1);
     }
     expect_diagnostic(&image, 1, 0, 10, 0);
-    try_accepted();
+    try_call(ROLES_CALL, "exact fit", 8388608, 0, LUAD51_ACCEPTED, 1048576);
+    try_call(ROLES_CALL, "roles a byte short", 8388607, 0, LUAD51_ROLE_BUFFER_TOO_SHORT, 0);
+    try_call(BINDINGS_CALL, "exact fit", 8388608, 0, LUAD51_ACCEPTED, 0);
+    try_call(BINDINGS_CALL, "roles a byte short", 8388607, 0, LUAD51_ROLE_BUFFER_TOO_SHORT, 0);
+    try_call(CHECK_CALL, "exact fit", 8388608, 16, LUAD51_ACCEPTED, 1);
+    try_call(CHECK_CALL, "roles a byte short", 8388607, 16, LUAD51_ROLE_BUFFER_TOO_SHORT, 0);
+    try_call(CHECK_CALL, "own a byte short", 8388608, 15, LUAD51_BUFFER_TOO_SHORT, 1);
 }
 
 static void largest_fields(void)

@@ -219,6 +219,7 @@ void prepare_memory(void)
     }
     for (int i = 0; i < LENT; i++)
         make_memory(&memories[i], ROOM[i]);
+    setvbuf(stdout, NULL, _IOLBF, BUFSIZ); /* so that what was printed is not lost when a call touches such a page */
     signal(SIGSEGV, touched);
     signal(SIGBUS, touched);
 }

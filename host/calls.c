@@ -1,7 +1,7 @@
 /* Tests the three calls as a C program sees them: refusals and which of them comes first, exact fits and buffers that
- * are too short, limits, empty slices, addresses, the worked examples P1 to P13 of document 01, the header's functions,
- * threads. What is expected is written by hand from document 01.
- *     cc -std=c99 -O2 -Iinclude -o calls host/calls.c host/lend.c target/staticlib/libluad51.a -pthread
+ * are too short, limits, empty slices, addresses, the worked examples P1 to P13 of document 01, threads. host/header.c
+ * tests the header's numbers and functions. What is expected is written by hand from document 01.
+ *     cc -std=c99 -O2 -Iinclude -o calls host/calls.c host/header.c host/lend.c target/staticlib/libluad51.a -pthread
  * Prints a line for each failed expectation. Exit status: 0 none failed, 1 some did or a call touched what it must not,
  * 2 the test itself could not run. */
 #define _POSIX_C_SOURCE 200809L
@@ -43,7 +43,7 @@ static void try_call(enum call call, const char *buffers, size_t roles_len, size
                      uint32_t figure)
 {
     struct attempt one = {call, buffers, roles_len, own_len, refusal, figure};
-    attempt(&image, &one);
+    try_attempt(&image, &one);
 }
 
 /* Makes a call with buffers that fit, are too long and too short. */
@@ -71,8 +71,8 @@ static void try_accepted(void)
 {
     for (int call = ROLES_CALL; call < CALLS; call++)
         try_fits((enum call)call);
-    try_call(CHECK_CALL, "room for all diagnostics that there can be", image.roles_len,
-             DIAGNOSTICS_ROOM, LUAD51_ACCEPTED, record_count(&image, CHECK_CALL));
+    try_call(CHECK_CALL, "room for all diagnostics that there can be", image.roles_len, DIAGNOSTICS_ROOM,
+             LUAD51_ACCEPTED, record_count(&image, CHECK_CALL));
 }
 
 /* Tries the image by all calls, which refuse it before they look at their buffers. */
@@ -289,17 +289,17 @@ static void refusals_1_and_2(void)
     add_words_bytes(&image, 4194305);
     try_refused(1, 0);
     for (size_t len = 1; len < 60; len++) {
-        start("part of a row");
+        start("partial row");
         add_table_bytes(&image, len);
         if (len % 20 != 0)
             try_refused(2, 0);
     }
-    start("part of a row above the limit: 2 before 3");
+    start("partial row above the limit: 2 before 3");
     for (int i = 0; i < 16385; i++)
         add_row(&image, i > 0, 0, 0, 0, 0);
     add_table_bytes(&image, 1);
     try_refused(2, 0);
-    start("a bad row and part of a row: 2 before 4, 5 and 6");
+    start("a bad row and a partial row: 2 before 4, 5 and 6");
     add_row(&image, 1, 1, 0, 256, 0);
     add_table_bytes(&image, 19);
     try_refused(2, 0);
@@ -548,97 +548,6 @@ static void empty_in_written(void)
     }
 }
 
-/* A result and what is to be read from it. */
-struct packed {
-    uint64_t result;
-    uint32_t refusal;
-    uint32_t figure;
-    uint32_t verdict;
-    int passed;
-};
-
-static void read_results(void)
-{
-    static const struct packed PACKED[] = {
-        {0x0, 0, 0, 0, 1},
-        {0x280f, 0, 10255, 0, 1},
-        {0xffffffff, 0, 4294967295u, 0, 1},
-        {0x10000000000, 0, 0, 1, 0},
-        {0x10000000001, 0, 1, 1, 0},
-        {0x20000000000, 0, 0, 2, 0},
-        {0x2000000280f, 0, 10255, 2, 0},
-        {0x100000000, 1, 0, 0, 0},
-        {0x200000000, 2, 0, 0, 0},
-        {0x300000000, 3, 0, 0, 0},
-        {0x400003fff, 4, 16383, 0, 0},
-        {0x500003fff, 5, 16383, 0, 0},
-        {0x600000000, 6, 0, 0, 0},
-        {0x700000000, 7, 0, 0, 0},
-        {0x8003fc000, 8, 4177920, 0, 0},
-        {0x0000ff0000000000, 0, 0, 255, 0},
-        {0x000000ff00000000, 255, 0, 0, 0},
-        {0xffff000000000000, 0, 0, 0, 1},
-    };
-    in_case("reading results");
-    for (size_t i = 0; i < COUNT(PACKED); i++) {
-        expect("refusal", PACKED[i].refusal, luad51_refusal(PACKED[i].result));
-        expect("figure", PACKED[i].figure, luad51_figure(PACKED[i].result));
-        expect("verdict", PACKED[i].verdict, luad51_verdict(PACKED[i].result));
-        expect("passed", (uint64_t)PACKED[i].passed, (uint64_t)luad51_passed(PACKED[i].result));
-    }
-}
-
-/* Numbers and their bytes, read and written at every offset. */
-static void read_numbers(void)
-{
-    static const struct {
-        int64_t value;
-        uint8_t bytes[4];
-    } NUMBERS[] = {{0, {0, 0, 0, 0}},
-                   {1, {1, 0, 0, 0}},
-                   {-1, {0xff, 0xff, 0xff, 0xff}},
-                   {-2, {0xfe, 0xff, 0xff, 0xff}},
-                   {0x04030201, {1, 2, 3, 4}},
-                   {-2139062144, {0x80, 0x80, 0x80, 0x80}},
-                   {2147483647, {0xff, 0xff, 0xff, 0x7f}},
-                   {-2147483647 - 1, {0, 0, 0, 0x80}}};
-    in_case("reading and writing numbers");
-    for (size_t i = 0; i < COUNT(NUMBERS); i++)
-        for (size_t offset = 0; offset < 8; offset++) {
-            uint8_t block[16], wanted[16];
-            memset(block, 0x55, sizeof block);
-            memset(wanted, 0x55, sizeof wanted);
-            memcpy(wanted + offset, NUMBERS[i].bytes, 4);
-            luad51_put_u32(block + offset, (uint32_t)NUMBERS[i].value);
-            expect_bytes("u32 written", wanted, block, sizeof block);
-            expect("i32 read", (uint64_t)NUMBERS[i].value, (uint64_t)(int64_t)luad51_i32(wanted + offset));
-        }
-}
-
-/* Records 0 and 1 of bytes that are all different. */
-static void read_records(void)
-{
-    uint8_t bytes[2 * LUAD51_DIAGNOSTIC_BYTES + 1];
-    for (size_t i = 0; i < sizeof bytes; i++)
-        bytes[i] = (uint8_t)i;
-    struct luad51_role role = luad51_role_at(bytes + 1, 1);
-    struct luad51_binding binding = luad51_binding_at(bytes + 1, 1);
-    struct luad51_diagnostic diagnostic = luad51_diagnostic_at(bytes + 1, 1);
-    in_case("reading records");
-    expect("owner", 0x0c0b0a09, (uint64_t)role.owner);
-    expect("index", 0x100f0e0d, (uint64_t)role.index);
-    expect("instack", 0x100f0e0d, (uint64_t)binding.instack);
-    expect("index", 0x14131211, (uint64_t)binding.index);
-    expect("pc", 0x18171615, (uint64_t)binding.pc);
-    expect("row", 0x14131211, (uint64_t)diagnostic.row);
-    expect("pc", 0x18171615, (uint64_t)diagnostic.pc);
-    expect("code", 0x1c1b1a19, (uint64_t)diagnostic.code);
-    expect("value", 0x201f1e1d, (uint64_t)diagnostic.value);
-    expect("record 0", 0x04030201, (uint64_t)luad51_role_at(bytes + 1, 0).owner);
-    expect("record 0", 0x04030201, (uint64_t)luad51_binding_at(bytes + 1, 0).instack);
-    expect("record 0", 0x04030201, (uint64_t)luad51_diagnostic_at(bytes + 1, 0).row);
-}
-
 /* A thread: its image, buffers of its own, and how many of its calls gave something else than expected. */
 struct worker {
     const struct image *image;
@@ -717,11 +626,11 @@ static void threads(void)
 int main(void)
 {
     static void (*const CASES[])(void) = {
-        read_results,     read_numbers,      read_records,     worked_words,       worked_closures,
-        worked_incoming,  incoming_extremes, limit_met,        other_codes,        bound_twice,
-        extra_word,       refusals_1_and_2,  refusal_3,        refusal_4,          refusal_5,
-        refusal_6,        most_rows,         deepest,          most_words,         largest_fields,
-        most_bindings,    empty_table,       empty_in_written, empty_beside_table, threads,
+        test_header,      worked_words,       worked_closures, worked_incoming, incoming_extremes,
+        limit_met,        other_codes,        bound_twice,     extra_word,      refusals_1_and_2,
+        refusal_3,        refusal_4,          refusal_5,       refusal_6,       most_rows,
+        deepest,          most_words,         largest_fields,  most_bindings,   empty_table,
+        empty_in_written, empty_beside_table, threads,
     };
     prepare_memory();
     for (size_t i = 0; i < COUNT(CASES); i++)

@@ -342,7 +342,7 @@ static void attempt_at_offset(const struct image *image, const struct attempt *a
     }
 }
 
-void attempt(const struct image *image, const struct attempt *attempt)
+void try_attempt(const struct image *image, const struct attempt *attempt)
 {
     size_t lent = image->table_len + image->words_len + attempt->roles_len + attempt->own_len;
     size_t offsets = lent > LARGE ? 1 : 8;

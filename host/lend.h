@@ -69,7 +69,7 @@ void prepare_memory(void);
 
 /* Makes the call at several places of the guarded memory: small ones at every offset from 0 to 7 of each slice and
  * buffer, large ones right after and right before a page that cannot be touched. */
-void attempt(const struct image *image, const struct attempt *attempt);
+void try_attempt(const struct image *image, const struct attempt *attempt);
 
 /* Says which case the next expectations belong to. */
 void in_case(const char *name);
@@ -82,5 +82,8 @@ void expect_bytes(const char *what, const uint8_t *expected, const uint8_t *got,
 
 /* Prints how many expectations there were; returns the exit status. */
 int report(void);
+
+/* The expectations of host/header.c. */
+void test_header(void);
 
 #endif

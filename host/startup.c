@@ -15,8 +15,7 @@
 
 /* A u32 of an image, least byte first, and a row of five. */
 #define U32(value) (value) & 0xff, (value) >> 8 & 0xff, (value) >> 16 & 0xff, (value) >> 24 & 0xff
-#define ROW(depth, words, constants, upvalues, stack) \
-    U32(depth), U32(words), U32(constants), U32(upvalues), U32(stack)
+#define ROW(depth, words, constants, upvalues, stack) U32(depth), U32(words), U32(constants), U32(upvalues), U32(stack)
 
 /* What the flash has room for. */
 #define MOST_WORDS 256
@@ -128,8 +127,8 @@ static void print_bindings(void)
 /* Finds where the upvalues come from, which the script's closures are made with. */
 static bool bind_upvalues(void)
 {
-    uint64_t result = luad51_bindings(protos, sizeof protos, words, sizeof words, roles, sizeof roles, bindings,
-                                      sizeof bindings);
+    uint64_t result =
+        luad51_bindings(protos, sizeof protos, words, sizeof words, roles, sizeof roles, bindings, sizeof bindings);
     if (luad51_refusal(result) != LUAD51_ACCEPTED) {
         print_refusal("bindings", result);
         return false;

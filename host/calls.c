@@ -27,7 +27,7 @@
 #define CLOSURE 0x00000024u
 
 /* Times that each thread makes its calls. */
-#define ROUNDS 100
+#define ROUNDS 300
 
 static struct image image, second;
 
@@ -578,6 +578,7 @@ static uint64_t work_once(struct worker *worker, enum call call)
            memcmp(worker->own, own_records(of, call), own_len) != 0;
 }
 
+/* The threads begin together, and their calls overlap in all sorts of ways. */
 static void *work(void *argument)
 {
     struct worker *worker = argument;
@@ -613,10 +614,26 @@ static void try_threads(const char *name, const struct image *first, const struc
         expect("calls that differ", 0, workers[i].differing);
 }
 
-/* The images were tried by one thread alone before. */
+/* An image about as long as that of most_diagnostics, whose records are others: every second word is an extra word. */
+static void many_extra_words(void)
+{
+    start("5,000 extra words");
+    add_row(&image, 0, 10000, 0, 1, 1);
+    for (int pc = 0; pc < 10000; pc += 2) {
+        add_word(&image, 0x00800022);
+        add_word(&image, UNKNOWN);
+        expect_role(&image, -1, -1);
+        expect_role(&image, pc, -1);
+        expect_diagnostic(&image, 0, pc, 11, 1);
+    }
+    expect_binding(&image, 0, 0, -1);
+    try_accepted();
+}
+
+/* Each image was tried by one thread alone before. */
 static void threads(void)
 {
-    other_codes();
+    many_extra_words();
     second = image;
     most_diagnostics();
     try_threads("two threads, an image each", &second, &image);

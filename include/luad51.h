@@ -24,11 +24,11 @@
  * The archive is for x86-64 with the System V calling convention, as on Linux.
  *
  * A call takes at most LUAD51_STACK_BYTES of stack. Only the search for a child of a CLOSURE takes much: it goes one
- * call deeper for each row that it passes, 48 bytes each as compiled for x86-64. The check also goes one call deeper for
- * each level of nesting.
- * The time is linear in words and records, and in rows times the depth of nesting, where the CLOSUREs of a prototype name
- * its children in rising order, as compilers write them, or name the same one again. A smaller number starts the search
- * at the prototype's first row again, so an image made to do so can take time in proportion to words times rows.
+ * call deeper for each row that it passes, 48 bytes each as compiled for x86-64. The check also goes one call deeper
+ * for each level of nesting.
+ * The time is linear in words and records, and in rows times the depth of nesting, where the CLOSUREs of a prototype
+ * name its children in rising order, as compilers write them, or name the same one again. A smaller number starts the
+ * search at the prototype's first row again, so an image made to do so can take time in proportion to words times rows.
  *
  * The result of a call is figure + 2^32 * refusal + 2^40 * verdict; bits 48 to 63 are 0.
  *   accepted  refusal LUAD51_ACCEPTED; the figure is the number of role records, one for each word, or, of
@@ -120,7 +120,7 @@ enum luad51_code {
     L51_CLOSURE_002 = 17   /* binding word that is neither MOVE nor GETUPVAL; value: its opcode, or -1 above 37 */
 };
 
-/* Compilers that know how warn of a call with a null pointer, and of a result that is not looked at. */
+/* Lets gcc and clang warn of a null pointer and of a result that is not looked at. */
 #ifdef __GNUC__
 #define LUAD51_CALL __attribute__((nonnull, warn_unused_result))
 #else

@@ -159,7 +159,7 @@ static void worked_closures(void)
 static void try_incoming(const char *name, uint32_t words, uint32_t word, uint32_t warnings, uint32_t errors,
                          uint32_t verdict)
 {
-    start_one(name, words, word, 250);
+    start_one(name, words, word, 2);
     image.warnings = warnings;
     image.errors = errors;
     image.verdict = verdict;
@@ -171,7 +171,8 @@ static void worked_incoming(void)
     start_one("P12 with stack 251", 0, 0, 251);
     expect_diagnostic(&image, 0, -1, 3, 251);
     try_accepted();
-    try_incoming("P12 with stack 250", 0, 0, 0, 0, LUAD51_VALID_FOR_PARSER);
+    start_one("P12 with stack 250", 0, 0, 250);
+    try_accepted();
     try_incoming("P13", 0, 0, 10000, 0, LUAD51_INCOMPLETE);
     try_incoming("P13 with an error", 0, 0, 10000, 1, LUAD51_INVALID);
 }
@@ -280,6 +281,7 @@ static void extra_word(void)
 
 static void refusals_1_and_2(void)
 {
+    static const size_t PARTIAL[] = {1, 4, 19, 21, 30, 39};
     start("no rows");
     try_refused(1, 0);
     start("no rows, and a word: 1 before 6");
@@ -288,11 +290,10 @@ static void refusals_1_and_2(void)
     start("no rows, and too many words: 1 before 3");
     add_words_bytes(&image, 4194305);
     try_refused(1, 0);
-    for (size_t len = 1; len < 60; len++) {
+    for (size_t i = 0; i < COUNT(PARTIAL); i++) {
         start("partial row");
-        add_table_bytes(&image, len);
-        if (len % 20 != 0)
-            try_refused(2, 0);
+        add_table_bytes(&image, PARTIAL[i]);
+        try_refused(2, 0);
     }
     start("partial row above the limit: 2 before 3");
     for (int i = 0; i < 16385; i++)

@@ -1,5 +1,5 @@
 //! What the three calls answer for an image and its buffers.
-use crate::image::{Image, BINDING_LEN, DIAGNOSTIC_LEN};
+use crate::image::{Buffers, Image, BINDING_LEN, DIAGNOSTIC_LEN};
 use crate::judge::{judge, Answer};
 use crate::refusal::{image_refusal, records_refusal, roles_refusal, Refused};
 
@@ -24,20 +24,24 @@ fn outcome(refused: Option<Refused>, records: usize) -> Outcome {
     refused.map_or(Ok(records), Err)
 }
 
+/// What the roles, bindings and check calls answer with such buffers, given the numbers of their records.
+pub fn outcomes(image: &Image, buffers: Buffers, [words, bindings, diagnostics]: [usize; 3]) -> [Outcome; 3] {
+    let roles = roles_refusal(&image.protos, &image.words, buffers.roles);
+    [
+        outcome(roles, words),
+        outcome(roles.or(records_refusal(bindings, BINDING_LEN, buffers.bindings)), bindings),
+        outcome(roles.or(records_refusal(diagnostics, DIAGNOSTIC_LEN, buffers.diagnostics)), diagnostics),
+    ]
+}
+
 /// What the calls answer, given luad's answer.
 pub fn calls_for(image: &Image, answer: Option<Answer>) -> Calls {
-    let buffers = image.buffers;
-    let roles = roles_refusal(&image.protos, &image.words, buffers.roles);
-    let [words, bindings, diagnostics] = answer.as_ref().map_or([0; 3], |answer| {
+    let records = answer.as_ref().map_or([0; 3], |answer| {
         let Answer { roles, bindings, diagnostics, .. } = answer;
         [roles.len(), bindings.len(), diagnostics.len()]
     });
-    Calls {
-        roles: outcome(roles, words),
-        bindings: outcome(roles.or(records_refusal(bindings, BINDING_LEN, buffers.bindings)), bindings),
-        check: outcome(roles.or(records_refusal(diagnostics, DIAGNOSTIC_LEN, buffers.diagnostics)), diagnostics),
-        answer,
-    }
+    let [roles, bindings, check] = outcomes(image, image.buffers, records);
+    Calls { roles, bindings, check, answer }
 }
 
 /// What the calls answer.

@@ -9,7 +9,7 @@ const HEADER: [u8; 12] = [0x1b, b'L', b'u', b'a', 0x51, 0, 1, 4, 4, 4, 8, 0];
 const MOST_CONSTANTS: u32 = 262_144;
 
 /// The children of each row, in order: a row's parent is the last row before it that is one less deep.
-fn children(protos: &[Proto]) -> Vec<Vec<usize>> {
+pub fn children(protos: &[Proto]) -> Vec<Vec<usize>> {
     let mut children = vec![Vec::new(); protos.len()];
     let mut last = vec![0; 200];
     for (row, proto) in protos.iter().enumerate() {

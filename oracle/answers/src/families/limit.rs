@@ -94,7 +94,7 @@ fn add_huge(list: &mut List) {
 }
 
 /// A random tree of rows with a stack warning or not and words of none, one, three or five diagnostics.
-fn random(rng: &mut Rng) -> Vec<Source> {
+pub fn random(rng: &mut Rng) -> Vec<Source> {
     let mut sources = Vec::new();
     for number in 0..rng.range(1, 5) {
         let mut code = Vec::new();

@@ -124,7 +124,7 @@ fn add_pairs(list: &mut List) {
 }
 
 /// Some refusals at once, by chance; now and then a table or words of random bytes.
-fn random(rng: &mut Rng) -> Image {
+pub fn random(rng: &mut Rng) -> Image {
     let mut image = base();
     image.warnings = rng.pick(&[0, 0, 1, 9_999, 10_000]);
     image.errors = rng.pick(&[0, 0, 0, 1, 10_000]);

@@ -34,7 +34,11 @@ impl Records {
 }
 
 /// Ways to lend buffers, besides those that fit exactly.
-pub const TURNS: u32 = 7;
+const TURNS: u32 = 7;
+
+/// Those of them with much room for diagnostics. Every byte of it is compared, which takes longer than the calls, so they
+/// get fewer images than the others.
+const ROOMY: [u32; 2] = [5, 6];
 
 /// Diagnostics that a check has at most.
 const MOST_DIAGNOSTICS: usize = 10_255;
@@ -69,9 +73,9 @@ impl Case {
             0 => [roles + 5, bindings + 31, diagnostics + 39],
             1 => [roles, less(bindings, 12), less(diagnostics, 16)],
             2 => [less(roles, 1), bindings, diagnostics],
-            3 => [roles, bindings + 12, 16 * MOST_DIAGNOSTICS],
-            4 => [roles + 1, less(bindings, 1), less(diagnostics, 1)],
-            5 => [roles, 0, 0],
+            3 => [roles + 1, less(bindings, 1), less(diagnostics, 1)],
+            4 => [roles, 0, 0],
+            5 => [roles, bindings + 12, 16 * MOST_DIAGNOSTICS],
             _ => [less(roles, 8), bindings + 11, 16 * (MOST_DIAGNOSTICS - 1)],
         };
         Buffers { roles, bindings, diagnostics }
@@ -79,7 +83,9 @@ impl Case {
 
     /// The buffers of the image with this number: an exact fit, one of the others, and the image's own if it has any.
     pub fn buffers(&self, number: u64) -> Vec<Buffers> {
-        let mut all = vec![self.exact(), self.turn(Rng::new(number).below(TURNS))];
+        let mut rng = Rng::new(number);
+        let turn = if rng.one_in(16) { rng.pick(&ROOMY) } else { rng.below(TURNS - ROOMY.len() as u32) };
+        let mut all = vec![self.exact(), self.turn(turn)];
         if self.image.buffers != Buffers::default() {
             all.push(self.image.buffers);
         }

@@ -1,7 +1,7 @@
 //! `compare full SEED` and `compare quick SEED` make many images, let luad's published Rust judge each, and compare the
 //! calls of libluad51.a with it: results and every byte of the buffers. `compare sharpness SEED` compares wrong answers
-//! on the images of the quick run, and each must be told from luad's. The exit status is 1 where something differs, where
-//! a code, a verdict or a refusal did not occur, or where a wrong answer was not told.
+//! on the images of the quick run, and each must be told from luad's. The exit status is 1 where something differs,
+//! where a code, a verdict or a refusal did not occur, or where a wrong answer was not told.
 mod buffer;
 mod case;
 mod comparer;

@@ -1,8 +1,12 @@
-//! Wrong answers on the images of the quick run: each must be told from luad's, and luad's own never.
+//! Wrong answers on the images of the quick run: each must be told from luad's, and luad's own never. Large images take
+//! long, so they are tried only with the wrong answers that no image before has told.
 use crate::case::{Case, Records};
 use crate::comparer::Comparer;
 use crate::kinds::{each_image, Scale, KINDS};
 use crate::wrong::{variants, Flaw, Model, Variant};
+
+/// Bytes above which an image is large.
+const LARGE: usize = 100_000;
 
 /// The images that told a variant from luad, and the kind of the first.
 #[derive(Clone, Copy, Default)]
@@ -54,8 +58,10 @@ pub fn run(seed: u64) -> bool {
         let case = Case::new(image);
         let right = comparer.compare(&mut Model::of(&case, None), &case, &case.buffers(images), images);
         false_alarms += u64::from(right.is_some());
+        let large = case.image.words.len() + case.image.protos.len() > LARGE;
         for (told, variant) in told.iter_mut().zip(&variants) {
-            if is_told(&mut comparer, variant, &case, images) {
+            let tried = !large || told.images == 0;
+            if tried && is_told(&mut comparer, variant, &case, images) {
                 told.add(kind);
             }
         }

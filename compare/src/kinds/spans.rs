@@ -4,8 +4,8 @@ use answers::image::{image, Source};
 use answers::rng::Rng;
 use answers::word::{abc, asbx, op};
 
-/// The word of each opcode with a span whose last register is `last`, where it can be: a count out of A and `last`, or a
-/// fixed distance.
+/// The word of each opcode with a span whose last register is `last`, where it can be: a count out of A and `last`, or
+/// a fixed distance.
 fn words(a: u32, last: u32) -> Vec<u32> {
     let counted = |more: u32| (last + more).checked_sub(a).filter(|count| *count < 512);
     let mut words = Vec::new();

@@ -64,7 +64,7 @@ pub fn variants() -> Vec<Variant> {
         changed("CLOSURE among companions binds", |image, answer| bind_by(Rule::CompanionsBind, image, answer)),
         changed("instack 1 for GETUPVAL", |_, answer| each_bound(answer, |binding| binding[0] = 1)),
         changed("instack 0 for MOVE", |_, answer| each_bound(answer, |binding| binding[0] = 0)),
-        changed("a binding at its CLOSURE's pc", |_, answer| each_bound(answer, |binding| binding[2] -= 1)),
+        changed("a binding's pc one less", |_, answer| each_bound(answer, |binding| binding[2] -= 1)),
         changed("pc 0 where nothing is bound", |_, answer| {
             answer.bindings.iter_mut().for_each(|binding| binding[2] = binding[2].max(0));
         }),

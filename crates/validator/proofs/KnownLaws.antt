@@ -13,13 +13,13 @@ use Rattle.opcodes.specs.Words.{opcode, is, decoded, opcodes, opcodeAt, opcodeO
 use Rattle.opcodes.specs.declared.Opcode51.{Opcode51}
 use Rattle.opcodes.specs.declared.OpcodeField.the-variants.{Known, Unknown}
 use Rattle.opcodes.specs.declared.RawInstruction51.{RawInstruction51}
-use Rattle.opcodes.proofs.TestLaws.{by-cond}
-use Rattle.chunk.specs.Roles.{executableAt, wordAt, bindingCount, bindingWords, existing}
+use Rattle.chunk.specs.Roles.{wordAt, bindingWords}
 use Rattle.chunk.specs.Table.{Proto}
 use Rattle.verdict.specs.Diagnostics.{opcodeDiagnostics, jumpDiagnostics, skipDiagnostics, operandDiagnostics, bindingDiagnostics, knownDiagnostics, wordDiagnostics}
 use Rattle.verdict.specs.Operands.{isUnknown}
 use Rattle.validator.specs.Contracts.{Decodes}
 use Rattle.validator.specs.Steps.{State, emitted, emitAll}
+use Rattle.validator.proofs.BindingLaws.{only-closures}
 use Rattle.validator.proofs.EmitLaws.{emits-word, emits-none, emits-cons, emits-end, emits-join}
 use Rattle.validator.proofs.FaultLaws.{split-again}
 use Rattle.validator.proofs.OperandLaws.{not-unknown, listed}
@@ -72,8 +72,7 @@ module _ (row pc : ℕ) (p : Proto) (w : RawInstruction51) (v : ℕ) (split : w 
     binds b e q = subst T (sym q ∙ e ∙ listed op w d (CLOSURE ∷ []) ∙ ap (λ (n : ℕ). is n (CLOSURE ∷ [])) same) tt
 
     pub no-bindings : (b : Bool) (u : State) → b ≡ elem (numberOf op) (CLOSURE ∷ []) → b ≡ false → u ≡ emitAll row (flatMap (bindingDiagnostics p) (upFrom (pc + 1) (bindingWords p pc))) u
-    unfolding bindingWords bindingCount existing flatMap
+    unfolding flatMap
     no-bindings b u e q =
         let other : is (wordAt p pc) (CLOSURE ∷ []) ≡ false = sym (sym q ∙ e ∙ listed op w d (CLOSURE ∷ []) ∙ ap (λ (n : ℕ). is n (CLOSURE ∷ [])) same) in
-        let none : bindingWords p pc ≡ 0 = rw other (by-cond (λ (n : ℕ). n ≡ 0) (executableAt p pc) _ _ (λ _. omega arith) (λ _. refl)) in
-        emits-none row u ∙ ap (λ (n : ℕ). emitAll row (flatMap (bindingDiagnostics p) (upFrom (pc + 1) n)) u) (sym none)
+        emits-none row u ∙ ap (λ (n : ℕ). emitAll row (flatMap (bindingDiagnostics p) (upFrom (pc + 1) n)) u) (sym (only-closures p pc other))

@@ -1,4 +1,5 @@
 pub mod BindingLaws
+pub mod CleanLaws
 pub mod CheckLaws
 pub mod ChildCountLaws
 pub mod CycleLaws

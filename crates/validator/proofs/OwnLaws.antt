@@ -1,8 +1,9 @@
 -- A prototype's own steps: its truncated owner, its stack, and its words one after another. Assumes nothing.
-use Prim.Native.Nat.{ℕ, suc, _+_, _-_, _/_, _≤_, _<_}
+use Prim.Native.Nat.{ℕ, zero, suc, _+_, _-_, _/_, _≤_, _<_}
+use native.Mathlib.Nat.{add-zero}
 use native.Mathlib.Numerals.{add-one}
 use native.Mathlib.Omega.{arith}
-use mathlib.Core.Path.{_≡_, refl, sym, _∙_, ap, subst}
+use mathlib.Core.Path.{_≡_, refl, sym, _∙_, ap, subst, subst⁻¹}
 use mathlib.Core.Bool.{Bool, true, false, _&&_, _||_, not, cond, and-false}
 use mathlib.Core.List.{List, [], _∷_, _++_, map, flatMap, flatten, foldl, append-nil, foldl-append}
 use lib.Dec.{T, ltb, leb}
@@ -21,7 +22,7 @@ use Rattle.validator.specs.Steps.{State, emittedIf, emitAll, ended, test
 use Rattle.validator.specs.declared.fault.Lua51RoleFault.{Lua51RoleFault}
 use Rattle.validator.specs.declared.prototype.Prototype.{Prototype}
 use Rattle.validator.specs.declared.walk.WalkState.{WalkState}
-use Rattle.validator.proofs.EmitLaws.{emits-none, emits-only}
+use Rattle.validator.proofs.EmitLaws.{emits-none, emits-only, tested-going, step-ends, step-adds}
 use Rattle.validator.proofs.DescribedLaws.{looked-up, words-of}
 use Rattle.validator.proofs.RowLaws.{tested-step, steps-ended}
 
@@ -89,6 +90,31 @@ module _ (q : Prototype) (code records : List ℕ) (n : ℕ) (s₀ : State) wher
       -- where the walk has ended, the words after it change nothing
       pub words-stop : t .0 .limit ≡ true → (p : Proto) → Describes p q code records → t ≡ foldl (advance (q .row)) s₀ (map (wordStep p) (upFrom 0 n))
       words-stop l p d = sym (steps-ended (q .row) t (map (wordStep p) (upFrom (pc + 1) (n - (pc + 1)))) l) ∙ onwards p d
+
+  -- from a test on
+  module _ (s : State) (pc : ℕ) (pass : WordPass q code records n s₀ s pc) (t : WalkState) (e : t ≡ testedOf (s .0)) where
+    -- it ends the walk
+    pub test-stops : pc < n → t .limit ≡ true → (p : Proto) → Describes p q code records → _≡_ {A = State} (t, s .1) (foldl (advance (q .row)) s₀ (map (wordStep p) (upFrom 0 n)))
+    test-stops h l = words-stop s pc pass h (t, s .1) (λ p d. step-ends (q .row) (diagnosticsAt p pc) s t e l) l
+
+    -- it does not: words without diagnostics change nothing
+    clean-step : (p : Proto) (i : ℕ) → t .limit ≡ false → diagnosticsAt p i ≡ [] → s ≡ advance (q .row) s (wordStep p i)
+    clean-step p i l none =
+        step-adds (q .row) (diagnosticsAt p i) s t e s l
+        (emits-none (q .row) s ∙ ap (λ (ds : List Diagnostic). emitAll (q .row) ds s) (sym none) ∙ ap (λ (w : WalkState). emitAll (q .row) (diagnosticsAt p i) (w, s .1)) (sym (tested-going (s .0) t e l)))
+
+    pass-over : t .limit ≡ false → (k : ℕ) → pc + k ≤ n → ((p : Proto) → Describes p q code records → (i : ℕ) → pc ≤ i → i < pc + k → diagnosticsAt p i ≡ []) → WordPass q code records n s₀ s (pc + k)
+    pass-over l zero h none = subst (WordPass q code records n s₀ s) (sym (add-zero pc)) pass
+    pass-over l (suc k) h none =
+        let before = pass-over l k (omega arith) (λ p d i a b. none p d i a (omega arith)) in
+        let same : pc + k + 1 ≡ pc + suc k = omega arith in
+        subst (WordPass q code records n s₀ s) same (words-next s (pc + k) before (omega arith) s (λ p d. clean-step p (pc + k) l (none p d (pc + k) (omega arith) (omega arith))) refl)
+
+    pub words-over : t .limit ≡ false → (to : ℕ) → pc ≤ to → to ≤ n → ((p : Proto) → Describes p q code records → (i : ℕ) → pc ≤ i → i < to → diagnosticsAt p i ≡ []) → WordPass q code records n s₀ (t, s .1) to
+    words-over l to a b none =
+        let there : pc + (to - pc) ≡ to = omega arith in
+        subst⁻¹ (λ (w : WalkState). WordPass q code records n s₀ (w, s .1) to) (tested-going (s .0) t e l)
+        (subst (WordPass q code records n s₀ s) there (pass-over l (to - pc) (omega arith) (λ p d i x y. none p d i x (omega arith))))
 
 -- ---- all of them
 

@@ -1,2 +1,3 @@
+pub mod Clean
 pub mod Contracts
 pub mod Steps

@@ -1,4 +1,5 @@
 // The walk: a prototype's own diagnostics and then its children's, after luad's `validate_proto`.
+use crate::clean::next_suspect;
 use crate::codes::L51_CLOSURE_001;
 use crate::codes::L51_SETLIST_001;
 use crate::codes::L51_STACK_001;
@@ -179,7 +180,7 @@ fn validate_stack(walk: WalkState, out: &mut [u8], proto: Prototype) -> WalkStat
     )
 }
 
-// The words, each after a test.
+// The words, each after a test, which passes again at words that have no diagnostics: these are passed over.
 fn validate_words(
     walk: WalkState,
     out: &mut [u8],
@@ -194,10 +195,15 @@ fn validate_words(
     let mut walk = walk;
     let mut pc = 0;
     while pc < n {
-        walk = validate_at(walk, out, proto, code, roles, pc);
+        walk = walk.tested();
         if walk.limit {
             return walk;
         }
+        pc = next_suspect(proto, code, roles, pc);
+        if n <= pc {
+            return walk;
+        }
+        walk = validate_at(walk, out, proto, code, roles, pc);
         pc += 1;
     }
     walk

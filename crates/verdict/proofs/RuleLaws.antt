@@ -17,9 +17,9 @@ use Rattle.chunk.specs.Roles.{isExecutable, executableAt, Executable, roleAt, w
 use Rattle.verdict.specs.Operands.{isUnknown, isBinding, isJump, target, isSkip, skipTarget, constantBx, upvalueB, flagA, registerA, spanEnds, registerIn, constantIn, childBx, capturedRegister, capturedUpvalue}
 use Rattle.verdict.specs.Diagnostics.{Diagnostic, diagnostic, isError, notBelow, truncationAt, opcodeDiagnostics, targetDiagnostics, jumpDiagnostics, skipDiagnostics, bindingDiagnostics, operandDiagnostics, knownDiagnostics, wordDiagnostics, diagnosticsAt}
 use Rattle.verdict.specs.Statements.{RulesByCodes}
-use Rattle.verdict.specs.Rules.{Below, registersOf, constantsOf, Lands, BindingKept, RulesAt, WellFormed}
+use Rattle.verdict.specs.Rules.{Below, registersOf, constantsOf, Lands, JumpKept, BindingKept, RulesAt, WellFormed}
 use Rattle.opcodes.proofs.AllLaws.{all-left, all-right, all-head, all-tail, all-flatten, flatten-all}
-use Rattle.opcodes.proofs.TestLaws.{T-true, not-not, double-not, by-cond}
+use Rattle.opcodes.proofs.TestLaws.{T-true, T-false, not-not, double-not, by-cond}
 use Rattle.chunk.proofs.RoleLaws.{exists, role, executable}
 
 abbrev pub Warns : Diagnostic → Type 0
@@ -135,15 +135,23 @@ tells-binding p pc =
 
 -- ---- the rules at one executable word
 
-tells-known : (p : Proto) (pc : ℕ) → T (not (isUnknown (wordAt p pc))) → T (not (isTruncated p pc)) → Tells (knownDiagnostics p pc (wordAt p pc)) (RulesAt p pc)
+-- those of codes 5 to 17
+pub record KnownKept (p : Proto) (pc : ℕ) : Type 0 where
+  pub jump : JumpKept p pc
+  pub constant : Below (p .constants) (constantsOf (wordAt p pc))
+  pub upvalue : Below (p .upvalues) (upvalueB (wordAt p pc))
+  pub flag : Below 2 (flagA (wordAt p pc))
+  pub register : Below (p .stack) (registersOf (wordAt p pc))
+  pub proto : Below (length (p .children)) (childBx (wordAt p pc))
+  pub binding : (j : ℕ) → j < bindingWords p pc → BindingKept p (wordAt p (pc + 1 + j))
+
+tells-kept : (p : Proto) (pc : ℕ) → Tells (knownDiagnostics p pc (wordAt p pc)) (KnownKept p pc)
 unfolding knownDiagnostics jumpDiagnostics operandDiagnostics registersOf constantsOf
-tells-known p pc known whole =
+tells-kept p pc =
     let w = wordAt p pc in
     tells-as
     (λ (jump, (skip, ((k, (u, (f, (a, (s, (b, (c, (kb, (kc, (child, _)))))))))), (bound, _)))).
     record {
-      truncated = whole;
-      opcode = known;
       jump = record { target = jump; skip = skip };
       constant = all-flatten (all-cons k (all-cons kb (all-cons kc all-nil)));
       upvalue = u;
@@ -176,6 +184,25 @@ tells-known p pc known whole =
     and tell-nil) .all
     and tells-upFrom (bindingDiagnostics p) (λ at. BindingKept p (wordAt p at)) (pc + 1) (bindingWords p pc) (λ j h. tells-binding p (pc + 1 + j))
     and tell-nil) .all)
+
+tells-known : (p : Proto) (pc : ℕ) → T (not (isUnknown (wordAt p pc))) → T (not (isTruncated p pc)) → Tells (knownDiagnostics p pc (wordAt p pc)) (RulesAt p pc)
+tells-known p pc known whole =
+    tells-as
+    (λ k.
+    record {
+      truncated = whole;
+      opcode = known;
+      jump = k .jump;
+      constant = k .constant;
+      upvalue = k .upvalue;
+      flag = k .flag;
+      register = k .register;
+      proto = k .proto;
+      binding = k .binding;
+    })
+    (λ h.
+    record { jump = h .jump; constant = h .constant; upvalue = h .upvalue; flag = h .flag; register = h .register; proto = h .proto; binding = h .binding })
+    (tells-kept p pc)
 
 tells-word : (p : Proto) (pc : ℕ) → T (not (isTruncated p pc)) → Tells (wordDiagnostics p pc (wordAt p pc)) (RulesAt p pc)
 unfolding wordDiagnostics opcodeDiagnostics only
@@ -225,6 +252,12 @@ pub no-diagnostics : (p : Proto) → WellFormed p → (pc : ℕ) → diagnostics
 unfolding diagnosticsAt
 no-diagnostics p k pc =
     none-elsewhere p pc (λ b. cond b (wordDiagnostics p pc (wordAt p pc)) []) refl (λ x. tells-at p pc x (k .words pc x .truncated) .none (k .words pc x))
+
+-- a word of a known opcode that keeps the rules of codes 5 to 17 has none, truncated or not
+pub known-none : (p : Proto) (pc : ℕ) → T (not (isUnknown (wordAt p pc))) → KnownKept p pc → diagnosticsAt p pc ≡ []
+unfolding diagnosticsAt wordDiagnostics opcodeDiagnostics only
+known-none p pc known k =
+    none-elsewhere p pc (λ b. cond b (wordDiagnostics p pc (wordAt p pc)) []) refl (λ x. rw (T-true (executableAt p pc) x, T-false (isUnknown (wordAt p pc)) known) (tells-kept p pc .none k))
 
 -- document 01's own sentence: a prototype keeps the rules when no condition of codes 1, 2 and 4 to 17 holds in it
 pub well-formed-iff-none : (p : Proto) → WellFormed p ↔ ((pc : ℕ) → pc < length (p .code) → (truncationAt p pc ≡ []) × (diagnosticsAt p pc ≡ []))

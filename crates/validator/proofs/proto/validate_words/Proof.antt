@@ -1,8 +1,10 @@
--- `validate_words` meets its contract: the loop takes the step of each word, until one ends the walk. Assumes nothing.
+-- `validate_words` meets its contract: the loop passes over words without diagnostics and takes the step of each other word, until a test ends the walk.
+-- Assumes nothing.
 use Prim.Native.Nat.{_-_}
 use native.Mathlib.Omega.{arith}
 use mathlib.Core.Path.{_∙_}
-use Rattle.validator.proofs.OwnLaws.{WordPass, words-begin, words-end, words-next, words-stop}
+use borrow.Author.Needs.{needs}
+use Rattle.validator.proofs.OwnLaws.{WordPass, words-begin, words-end, words-next, test-stops, words-over}
 use Rattle.validator.proofs.proto.validate_words.Statement.{statement}
 use Rattle.validator.proofs.proto.validate_words.Tie as tie
 
@@ -19,11 +21,21 @@ validate-words-spec =
     Inv-loop
     μ-loop
     (λ c. words-begin _ _ _ _ _)
-    (λ c κs. (omega (arith, c .before .loop-test .taken), c .before .before .before .before .before .before .pre .0, c .before .before .before .before .before .before .pre .1))
-    (λ c. c .before .before .before .validate-at .kept .1 .0 ∙ c .before .before .before .before .before .before .loop .inv .long)
-    (λ c. words-stop _ _ _ _ _ _ _ (c .before .before .before .before .before .before .loop .inv) (c .before .before .before .before .before .loop-test .taken) _ (c .before .before .before .validate-at .ensures) (c .if1 .taken))
-    (λ c. omega (arith, c .before .before .before .before .before .loop-test .taken))
-    (λ c. omega (arith, c .before .before .before .before .before .loop-test .taken))
-    (λ c. words-next _ _ _ _ _ _ _ (c .before .before .before .before .before .before .loop .inv) (c .before .before .before .before .before .loop-test .taken) _ (c .before .before .before .validate-at .ensures) (c .before .before .before .validate-at .kept .1 .0))
+    (λ c κs. search needs)
+    (λ c. c .before .before .before .loop .inv .long)
+    (λ c. test-stops _ _ _ _ _ _ _ (c .before .before .before .loop .inv) _ (c .before .tested .ensures) (c .before .before .loop-test .taken) (c .if1 .taken))
+    (λ c κs. (omega (arith, c .before .before .loop-test .taken), c .before .before .before .before .before .before .before .pre .0, c .before .before .before .before .before .before .before .pre .1))
+    (λ c. c .before .before .before .before .before .loop .inv .long)
+    (λ c.
+    words-end _ _ _ _ _ _ _
+    (words-over _ _ _ _ _ _ _ (c .before .before .before .before .before .loop .inv) _ (c .before .before .before .tested .ensures) (c .before .before .if1 .left) _ (c .before .next-suspect .ensures .0 .0) (c .before .next-suspect .ensures .0 .1) (c .before .next-suspect .ensures .1))
+    (c .if2 .taken))
+    (λ c κs. (omega (arith, c .before .if2 .left), c .before .before .before .before .before .before .before .before .before .before .pre .0, c .before .before .before .before .before .before .before .before .before .before .pre .1))
+    (λ c. omega (arith, c .before .before .before .before .if2 .left))
+    (λ c. omega (arith, c .before .before .before .before .if2 .left, c .before .before .before .before .before .next-suspect .ensures .0 .0))
+    (λ c.
+    words-next _ _ _ _ _ _ _
+    (words-over _ _ _ _ _ _ _ (c .before .before .before .before .before .before .before .before .before .loop .inv) _ (c .before .before .before .before .before .before .before .tested .ensures) (c .before .before .before .before .before .before .if1 .left) _ (c .before .before .before .before .before .next-suspect .ensures .0 .0) (c .before .before .before .before .before .next-suspect .ensures .0 .1) (c .before .before .before .before .before .next-suspect .ensures .1))
+    (omega (arith, c .before .before .before .before .if2 .left)) _ (c .before .before .validate-at .ensures) (c .before .before .validate-at .kept .1 .0))
     (λ c. c .before .loop .inv .long)
     (λ c. words-end _ _ _ _ _ _ _ (c .before .loop .inv) (c .loop-test .left)))

@@ -1,0 +1,197 @@
+// Words without a diagnostic are found fast: what an opcode names is looked up in a table, so that no branch depends on it, and the walk's state
+// is not touched. A word that is not found clean is judged by `word`, whether it has diagnostics or not.
+use crate::prototype::Prototype;
+use crate::word::is_companion;
+use opcodes::RawInstruction51;
+use opcodes::bytes::read_u32;
+ghost use mathlib.Core.Bool.{not, true};
+ghost use mathlib.Core.Path.{_≡_};
+ghost use Prim.Native.Nat.{_+_, _*_, _/_, _%_, _<_, _≤_, ℕ};
+ghost use mathlib.Core.List.{[]};
+ghost use lib.Dec.{T, leb, ltb};
+ghost use lib.IntN.{_-ℤ_, pos};
+ghost use lib.ListN.{getD, length};
+ghost use Rattle.opcodes.specs.Words.{decoded};
+ghost use Rattle.chunk.specs.Refusals.{maxWordBytes};
+ghost use Rattle.chunk.specs.Roles.{isExecutable};
+ghost use Rattle.chunk.specs.Table.{Proto};
+ghost use Rattle.roles.specs.Contracts.{roleIn};
+ghost use Rattle.verdict.specs.Diagnostics.{diagnosticsAt};
+ghost use Rattle.verdict.specs.Rules.{Lands};
+ghost use Rattle.validator.specs.Contracts.{Describes, Stands};
+ghost use Rattle.validator.specs.Clean.{FlowKept, OperandsBelow, limitsOf, shapes};
+
+// What Bx has more than sBx.
+const OFFSET_SBX: u32 = 131071;
+
+const LAST_OPCODE: u8 = 37;
+
+// Above every field of a word.
+const NO_LIMIT: u32 = 262144;
+
+// What each opcode names and where it goes, four bits each from the lowest on: the limit of A, of Bx, of B, of C, as places in the list of
+// limits; the span that B ends and the one that C ends; where the word goes.
+const SHAPES: [u32; 38] = [
+    0x202,
+    0x52,
+    0x400_0002,
+    0x202,
+    0x602,
+    0x52,
+    0x4202,
+    0x52,
+    0x602,
+    0x4402,
+    0x2,
+    0x6_4202,
+    0x4402,
+    0x4402,
+    0x4402,
+    0x4402,
+    0x4402,
+    0x4402,
+    0x202,
+    0x202,
+    0x202,
+    0x2202,
+    0x100_0000,
+    0x400_4408,
+    0x400_4408,
+    0x400_4408,
+    0x400_0002,
+    0x400_0202,
+    0x13_0002,
+    0x3_0002,
+    0x1_0002,
+    0x10a_0002,
+    0x10a_0002,
+    0x490_0002,
+    0x5_0002,
+    0x2,
+    0x200_0092,
+    0x1_0002,
+];
+
+// The first pc from `from` on whose word is not found clean, or the number of words.
+pub fn next_suspect(proto: Prototype, code: &[u8], roles: &[u8], from: usize) -> usize
+    requires { ⌜ (from ≤ length (now code) / 4) × (length (now code) ≤ maxWordBytes) × (length (now roles) ≤ 2 * maxWordBytes) ⌝ }
+    ensures { λ r. ⌜ (from ≤ r) × (r ≤ length (now (code .entry)) / 4) ⌝ }
+    ensures { λ r. ⌜ ((p : Proto) → Describes p proto (now (code .entry)) (now (roles .entry)) → (pc : ℕ) → from ≤ pc → pc < r → diagnosticsAt p pc ≡ []) ⌝ }
+{
+    let limits = [
+        NO_LIMIT,
+        NO_LIMIT,
+        proto.stack,
+        0,
+        proto.stack,
+        proto.constants,
+        proto.upvalues,
+        0,
+        2,
+        proto.children,
+    ];
+    let n = code.len() / 4;
+    let mut pc = from;
+    while pc < n {
+        if !is_clean(proto, &limits, code, roles, pc) {
+            return pc;
+        }
+        pc += 1;
+    }
+    pc
+}
+
+// Whether the word at pc is a companion or is found clean.
+fn is_clean(proto: Prototype, limits: &[u32], code: &[u8], roles: &[u8], pc: usize) -> bool
+    requires { ⌜ (pc < length (now code) / 4) × (length (now code) ≤ maxWordBytes) × (length (now roles) ≤ 2 * maxWordBytes) ⌝ }
+    requires { ⌜ now limits ≡ limitsOf proto ⌝ }
+    ensures { λ r. ⌜ ((p : Proto) → Describes p proto (now (code .entry)) (now (roles .entry)) → r ≡ true → diagnosticsAt p pc ≡ []) ⌝ }
+{
+    if is_companion(roles, pc) {
+        return true;
+    }
+    let w = RawInstruction51::decode(read_u32(code, 4 * pc));
+    if LAST_OPCODE < w.opcode_num {
+        return false;
+    }
+    let shape = SHAPES[w.opcode_num as usize];
+    if !operands_below(proto, limits, shape, w) {
+        return false;
+    }
+    goes_to_word(proto, roles, shape / 0x100_0000, pc as u32, w.bx)
+}
+
+// Whether all that the word names is below its limit.
+fn operands_below(proto: Prototype, limits: &[u32], shape: u32, w: RawInstruction51) -> bool
+    requires { ⌜ (now limits ≡ limitsOf proto) × (w ≡ decoded (w .raw)) × (w .«opcode_num» < 38) × (shape ≡ getD shapes (w .«opcode_num») 0) ⌝ }
+    ensures { λ r. ⌜ (r ≡ true → OperandsBelow proto (w .raw)) ⌝ }
+{
+    if !is_below(limits, shape % 16, w.a as u32) {
+        return false;
+    }
+    if !is_below(limits, shape / 16 % 16, w.bx) {
+        return false;
+    }
+    if !field_below(limits, shape / 256 % 16, w.b) {
+        return false;
+    }
+    if !field_below(limits, shape / 4096 % 16, w.c) {
+        return false;
+    }
+    if !span_below(proto.stack, shape / 0x1_0000 % 16, w.a, w.b) {
+        return false;
+    }
+    span_below(proto.stack, shape / 0x10_0000 % 16, w.a, w.c)
+}
+
+// Whether a value is below the limit in this place.
+fn is_below(limits: &[u32], place: u32, value: u32) -> bool
+    requires { ⌜ place < length (now limits) ⌝ }
+    ensures { λ r. ⌜ r ≡ ltb value (getD (now (limits .entry)) place 0) ⌝ }
+{
+    value < limits[place as usize]
+}
+
+// B or C: a value that has the bit of a constant has the next place.
+fn field_below(limits: &[u32], place: u32, value: u16) -> bool
+    requires { ⌜ (place < 16) × (place + 1 < length (now limits)) × (value < 512) ⌝ }
+    ensures { λ r. ⌜ r ≡ ltb (value % 256) (getD (now (limits .entry)) (place + value / 256) 0) ⌝ }
+{
+    is_below(limits, place + (value / 256) as u32, (value % 256) as u32)
+}
+
+// Whether a span ends below the stack. The lowest bit of `span` says whether it has `count` registers more.
+fn span_below(stack: u32, span: u32, a: u8, count: u16) -> bool
+    requires { ⌜ span < 16 ⌝ }
+    ensures { λ r. ⌜ r ≡ leb (a + span / 2 + span % 2 * count) (stack + 1) ⌝ }
+{
+    ((a as u32) + span / 2 + span % 2 * (count as u32)) as u64 <= (stack as u64) + 1
+}
+
+// Whether the word has no target or an executable one, and skips to no companion and owns none.
+fn goes_to_word(proto: Prototype, roles: &[u8], flow: u32, pc: u32, bx: u32) -> bool
+    requires { ⌜ (flow < 16) × (4 * pc < maxWordBytes) × (bx < 262144) ⌝ }
+    ensures { λ r. ⌜ ((p : Proto) → Stands p proto (now (roles .entry)) → r ≡ true → FlowKept p flow pc bx) ⌝ }
+{
+    if flow == 0 {
+        return true;
+    }
+    if flow == 1 {
+        return target_is_word(proto, roles, pc + 1 + bx);
+    }
+    !is_companion(roles, (pc + flow / 2) as usize)
+}
+
+// Whether an executable word stands at a target that is so much, less the offset of sBx.
+fn target_is_word(proto: Prototype, roles: &[u8], sum: u32) -> bool
+    ensures { λ r. ⌜ ((p : Proto) → Stands p proto (now (roles .entry)) → r ≡ true → Lands p (pos sum -ℤ pos 131071)) ⌝ }
+{
+    if sum < OFFSET_SBX {
+        return false;
+    }
+    let target = sum - OFFSET_SBX;
+    if proto.words <= target {
+        return false;
+    }
+    !is_companion(roles, target as usize)
+}

@@ -8,7 +8,7 @@ use mathlib.Core.Bool.{Bool, true, false, _&&_, _||_, not, and-false}
 use mathlib.Core.List.{List, [], _∷_}
 use lib.Dec.{T, eqb, eqb→eq, ltb, leb, ltb→lt, leb→le}
 use lib.ListN.{length, getD}
-use lib.IntN.{ℤ, pos, _-ℤ_}
+use lib.IntN.{pos, _-ℤ_}
 use borrow.Author.Tests.{ltb-true, ltb-false, leb-true, leb-false, le-ltb, eqb-true, eqb-false}
 use Rattle.opcodes.specs.Bytes.{u32At}
 use Rattle.opcodes.specs.Lists.{elem, every, only, upFrom, all-nil, all-cons}

@@ -4,18 +4,16 @@ use crate::prototype::Prototype;
 use crate::word::is_companion;
 use opcodes::RawInstruction51;
 use opcodes::bytes::read_u32;
-ghost use mathlib.Core.Bool.{not, true};
+ghost use mathlib.Core.Bool.{true};
 ghost use mathlib.Core.Path.{_≡_};
 ghost use Prim.Native.Nat.{_+_, _*_, _/_, _%_, _<_, _≤_, ℕ};
 ghost use mathlib.Core.List.{[]};
-ghost use lib.Dec.{T, leb, ltb};
+ghost use lib.Dec.{leb, ltb};
 ghost use lib.IntN.{_-ℤ_, pos};
 ghost use lib.ListN.{getD, length};
 ghost use Rattle.opcodes.specs.Words.{decoded};
 ghost use Rattle.chunk.specs.Refusals.{maxWordBytes};
-ghost use Rattle.chunk.specs.Roles.{isExecutable};
 ghost use Rattle.chunk.specs.Table.{Proto};
-ghost use Rattle.roles.specs.Contracts.{roleIn};
 ghost use Rattle.verdict.specs.Diagnostics.{diagnosticsAt};
 ghost use Rattle.verdict.specs.Rules.{Lands};
 ghost use Rattle.validator.specs.Contracts.{Describes, Stands};
@@ -32,44 +30,44 @@ const NO_LIMIT: u32 = 262144;
 // What each opcode names and where it goes, four bits each from the lowest on: the limit of A, of Bx, of B, of C, as places in the list of
 // limits; the span that B ends and the one that C ends; where the word goes.
 const SHAPES: [u32; 38] = [
-    0x202,
-    0x52,
-    0x400_0002,
-    0x202,
-    0x602,
-    0x52,
-    0x4202,
-    0x52,
-    0x602,
-    0x4402,
-    0x2,
-    0x6_4202,
-    0x4402,
-    0x4402,
-    0x4402,
-    0x4402,
-    0x4402,
-    0x4402,
-    0x202,
-    0x202,
-    0x202,
-    0x2202,
-    0x100_0000,
-    0x400_4408,
-    0x400_4408,
-    0x400_4408,
-    0x400_0002,
-    0x400_0202,
-    0x13_0002,
-    0x3_0002,
-    0x1_0002,
-    0x10a_0002,
-    0x10a_0002,
-    0x490_0002,
-    0x5_0002,
-    0x2,
-    0x200_0092,
-    0x1_0002,
+    0x202, // MOVE
+    0x52, // LOADK
+    0x400_0002, // LOADBOOL
+    0x202, // LOADNIL
+    0x602, // GETUPVAL
+    0x52, // GETGLOBAL
+    0x4202, // GETTABLE
+    0x52, // SETGLOBAL
+    0x602, // SETUPVAL
+    0x4402, // SETTABLE
+    0x2, // NEWTABLE
+    0x6_4202, // SELF
+    0x4402, // ADD
+    0x4402, // SUB
+    0x4402, // MUL
+    0x4402, // DIV
+    0x4402, // MOD
+    0x4402, // POW
+    0x202, // UNM
+    0x202, // NOT
+    0x202, // LEN
+    0x2202, // CONCAT
+    0x100_0000, // JMP
+    0x400_4408, // EQ
+    0x400_4408, // LT
+    0x400_4408, // LE
+    0x400_0002, // TEST
+    0x400_0202, // TESTSET
+    0x13_0002, // CALL
+    0x3_0002, // TAILCALL
+    0x1_0002, // RETURN
+    0x10a_0002, // FORLOOP
+    0x10a_0002, // FORPREP
+    0x490_0002, // TFORLOOP
+    0x5_0002, // SETLIST
+    0x2, // CLOSE
+    0x200_0092, // CLOSURE
+    0x1_0002, // VARARG
 ];
 
 // The first pc from `from` on whose word is not found clean, or the number of words.

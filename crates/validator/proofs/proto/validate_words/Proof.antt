@@ -2,7 +2,6 @@
 -- Assumes nothing.
 use Prim.Native.Nat.{_-_}
 use native.Mathlib.Omega.{arith}
-use mathlib.Core.Path.{_∙_}
 use borrow.Author.Needs.{needs}
 use Rattle.validator.proofs.OwnLaws.{WordPass, words-begin, words-end, words-next, test-stops, words-over}
 use Rattle.validator.proofs.proto.validate_words.Statement.{statement}

@@ -63,6 +63,10 @@ module _ (table : List ℕ) where
       let m : k - i ≡ suc (k - suc i) = omega arith in
       ap₂ (λ (n : ℕ) (l : List Row). bindingTotal (take n l)) m (drop-rows table i there)
 
+  -- those of one row
+  pub between-one : (i : ℕ) → i < length table / rowBytes → recordsBetween table i (i + 1) ≡ fieldAt table i 3
+  between-one i there = omega (arith, between-next i (i + 1) there (omega arith), none-between (suc i) (i + 1) (omega arith))
+
   -- where a row's records begin
   pub between-first : (i k : ℕ) → i ≤ k → firstBinding (rows table) k ≡ firstBinding (rows table) i + recordsBetween table i k
   between-first i k h = sym (between-front k) ∙ between-join 0 i k (omega arith) h ∙ ap (λ (n : ℕ). n + recordsBetween table i k) (between-front i)

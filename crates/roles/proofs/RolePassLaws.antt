@@ -13,8 +13,7 @@ use Rattle.opcodes.specs.Bytes.{u32At, u32s, overwrite}
 use Rattle.opcodes.specs.Words.{is, CLOSURE}
 use Rattle.chunk.specs.Table.{rowAt, Proto, protoOf}
 use Rattle.chunk.specs.Roles.{Role, Instruction, bindingCount, hasExtra, claims, rolesFrom, roles, roleAt, wordAt, Executable, existing, companions, roleBytes, recordsOf}
-use Rattle.roles.specs.Contracts.{Tracks, protoIn, childBindings, companionsOf, claimedRoles}
-use Rattle.roles.specs.declared.search.Cursor.{Cursor}
+use Rattle.roles.specs.Contracts.{protoIn, childBindings, companionsOf, claimedRoles}
 use Rattle.roles.specs.declared.discovery.Companions.{Companions}
 use Rattle.opcodes.proofs.ByteLaws.{length-u32s, getD-u32s, length-overwrite}
 use Rattle.chunk.proofs.RoleLaws.{role-executable, executable, owned-count, past-claims, no-both}
@@ -46,10 +45,9 @@ claims-claimed table row pc w ws = go (is w (CLOSURE ∷ [])) (hasExtra w) refl 
 
 -- ---- the pass
 
-pub record RolePass (table : List ℕ) (row : ℕ) (code old out : List ℕ) (pc : ℕ) (u : Cursor) : Type 0 where
+pub record RolePass (table : List ℕ) (row : ℕ) (code old out : List ℕ) (pc : ℕ) : Type 0 where
   pub within : pc ≤ length code / 4
   pub long : length out ≡ length old
-  pub tracks : Tracks table row u
   pub left : drop pc (roles (protoIn table row (u32s code))) ≡ rolesFrom (protoIn table row (u32s code)) pc [] (drop pc (u32s code))
   pub written : out ≡ overwrite old 0 (recordsOf (take pc (roles (protoIn table row (u32s code)))))
 
@@ -79,11 +77,11 @@ module _ (table : List ℕ) (row : ℕ) (code : List ℕ) (stated : rowAt table 
   count : length (roles p) ≡ length code / 4
   count = length-roles p ∙ ap length code-of ∙ length-u32s code
 
-  pub pass-begins : (old : List ℕ) (u : Cursor) → Tracks table row u → RolePass table row code old old 0 u
+  pub pass-begins : (old : List ℕ) → RolePass table row code old old 0
   unfolding roles
-  pass-begins old u t = record { within = omega arith; long = refl; tracks = t; left = ap (rolesFrom p 0 []) code-of; written = records-none old 0 }
+  pass-begins old = record { within = omega arith; long = refl; left = ap (rolesFrom p 0 []) code-of; written = records-none old 0 }
 
-  module _ (old out : List ℕ) (pc : ℕ) (u : Cursor) (v : RolePass table row code old out pc u) where
+  module _ (old out : List ℕ) (pc : ℕ) (v : RolePass table row code old out pc) where
     pub pass-ends : length code / 4 ≤ pc → out ≡ overwrite old 0 (recordsOf (roles p))
     pass-ends h = v .written ∙ ap (λ (rs : List Role). overwrite old 0 (recordsOf rs)) (take-all pc (roles p) (omega (arith, count)))
 
@@ -113,8 +111,8 @@ module _ (table : List ℕ) (row : ℕ) (code : List ℕ) (stated : rowAt table 
           ∙ ap (λ (l : List Role). Instruction ∷ l)
           (past-claims p (suc pc) (claims p pc w) ws ∙ ap (λ (l : List Role). l ++ rolesFrom p (suc pc + length l) [] (drop (length l) ws)) claimed)
 
-      pub pass-next : (new : List ℕ) (k : ℕ) (u′ : Cursor) → Tracks table row u′ → OwnerStep table row code pc w k cs out new → RolePass table row code old new (pc + (1 + k)) u′
-      pass-next new k u′ r step =
+      pub pass-next : (new : List ℕ) (k : ℕ) → OwnerStep table row code pc w k cs out new → RolePass table row code old new (pc + (1 + k))
+      pass-next new k step =
           let l = step .size in
           let most = step .most in
           let rs = take pc (roles p) in
@@ -126,7 +124,6 @@ module _ (table : List ℕ) (row : ℕ) (code : List ℕ) (stated : rowAt table 
           record {
             within = omega arith;
             long = ap length all ∙ length-overwrite old 0 _;
-            tracks = r;
             left =
                 subst⁻¹ (λ (n : ℕ). drop n (roles p) ≡ rolesFrom p n [] (drop n (u32s code))) to
                 (drop-front (roles p) pc (Instruction ∷ mine) _ front

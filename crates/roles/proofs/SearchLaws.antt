@@ -1,25 +1,25 @@
 -- The search for a child over the rows of a table, one at a time, and where it can be resumed. Assumes nothing.
-use Prim.Native.Nat.{ℕ, suc, _+_, _-_, _/_, _%_, _^_, _≤_, _<_}
-use native.Mathlib.Nat.{zero-add}
+use Prim.Native.Nat.{ℕ, suc, _+_, _-_, _*_, _/_, _%_, _^_, _≤_, _<_}
+use native.Mathlib.Nat.{zero-add, add-zero}
 use native.Mathlib.Numerals.{add-one}
 use native.Mathlib.Omega.{arith}
-use mathlib.Core.Path.{_≡_, refl, sym, _∙_, ap, subst⁻¹}
+use mathlib.Core.Path.{_≡_, refl, sym, _∙_, ap, ap₂, subst⁻¹}
 use mathlib.Core.Bool.{Bool, true, false}
 use mathlib.Core.List.{List, []}
 use mathlib.Core.Option.{Option, none, some}
-use lib.Dec.{T, eqb, eqb→eq, ltb, ltb→lt}
-use lib.ListN.{length, getD, drop, List·getD-eq-default}
-use borrow.Author.Tests.{lt-ltb, le-ltb, eq-eqb, ne-eqb, eqb-true, eqb-false}
+use lib.Dec.{eqb, ltb}
+use lib.ListN.{length, getD, drop, set, length-set, List·getD-eq-default}
+use lib.Seq.{getD-set-same, getD-set-other}
+use borrow.Author.Tests.{ltb-true, ltb-false, eqb-true, eqb-false}
 use Rattle.chunk.specs.Table.{Row, rowBytes, fieldAt, rowAt, rows, children, childAt}
-use Rattle.roles.specs.Contracts.{recordsBetween, childFrom, childOfRow, isChild, Tracks, protoIn, recordsBefore, childBindings}
+use Rattle.roles.specs.Contracts.{recordsBetween, childFrom, childOfRow, inIndex, RoomForChildren, Tracks, protoIn, recordsBefore, childBindings}
 use Rattle.roles.specs.declared.table.Child.{Child}
 use Rattle.roles.specs.declared.table.Child.the-variants as child
 use Rattle.roles.specs.declared.search.Cursor.{Cursor}
 use Rattle.roles.specs.declared.discovery.Companions.the-variants.{Bindings}
-use Rattle.opcodes.proofs.TestLaws.{T-and}
-use Rattle.chunk.proofs.TableLaws.{length-rows, child-upvalues, child-missing, element-missing}
+use Rattle.chunk.proofs.TableLaws.{child-upvalues, child-missing, element-missing}
 use Rattle.chunk.proofs.ChildLaws.{element-past-end, too-few, row-end, row-found, row-next, row-deeper, found}
-use Rattle.roles.proofs.CountLaws.{none-between, between-join, between-next, wrapped}
+use Rattle.roles.proofs.CountLaws.{none-between, between-join, between-one, wrapped}
 
 -- ---- a child as the code has it, with the place of its first binding record
 
@@ -68,7 +68,7 @@ module _ (table : List ℕ) (at d k first x : ℕ) (there : at < length table / 
   module _ (u next : ℕ) (own : u ≡ fieldAt table at 3) (e : next ≡ (first + u) % 2 ^ 32) where
     step : (k : ℕ) → search table (at + 1) d k next ≡ childFrom table at first (childAt d (drop (suc at) (rows table)) k)
     step k =
-        let one : recordsBetween table at (at + 1) ≡ u = omega (arith, own, between-next table at (at + 1) there (omega arith), none-between table (suc at) (at + 1) (omega arith)) in
+        let one : recordsBetween table at (at + 1) ≡ u = between-one table at there ∙ sym own in
         from-later table d at (at + 1) k first next (omega arith) (e ∙ ap (λ (n : ℕ). (first + n) % 2 ^ 32) (sym one))
         ∙ ap (λ (n : ℕ). childFrom table at first (childAt d (drop n (rows table)) k)) (add-one at)
 
@@ -81,33 +81,46 @@ module _ (table : List ℕ) (at d k first x : ℕ) (there : at < length table / 
     pub find-deeper : suc d < x → search table (at + 1) d k next ≡ search table at d k first
     find-deeper h = step k ∙ sym (ap (childFrom table at first) (row-deeper table at d there k (omega (arith, here))))
 
--- ---- a row that is a child by its depth
+-- ---- a child that was found is one deeper
 
-module _ (table : List ℕ) (row d : ℕ) where
-  pub no-row : length table / rowBytes ≤ row → false ≡ isChild table row d
-  unfolding isChild
-  no-row h = rw (length-rows, le-ltb _ _ h)
+one-deeper : (table : List ℕ) (d at k : ℕ) (c : Row) → childAt d (drop at (rows table)) k ≡ some c → rowAt table (c .row) .depth ≡ suc d
+one-deeper table d at k c e =
+    let v = found (length table / rowBytes) table d at k c (omega arith) e in
+    go (ltb (rowAt table (c .row) .depth) (suc d)) (eqb (rowAt table (c .row) .depth) (suc d)) refl refl (v .there)
+    (sym (v .resumes 0) ∙ ap (childAt d (drop at (rows table))) (add-zero k) ∙ e)
+  where
+    go : (less same : Bool) → ltb (rowAt table (c .row) .depth) (suc d) ≡ less → eqb (rowAt table (c .row) .depth) (suc d) ≡ same → c .row < length table / rowBytes → childAt d (drop (c .row) (rows table)) 0 ≡ some c → rowAt table (c .row) .depth ≡ suc d
+    go true true l s there e = eqb-true _ _ s
+    go false true l s there e = eqb-true _ _ s
+    go true false l s there e =
+        let gone : childAt d (drop (c .row) (rows table)) 0 ≡ none = row-end table (c .row) d there 0 (omega (arith, ltb-true (rowAt table (c .row) .depth) (suc d) l)) in
+        let z : _≡_ {A = ℕ} 0 1 = cc in
+        absurd (omega arith)
+    go false false l s there e =
+        let deep : suc d < rowAt table (c .row) .depth = omega (arith, ltb-false (rowAt table (c .row) .depth) (suc d) l, eqb-false (rowAt table (c .row) .depth) (suc d) s) in
+        let later = found (length table / rowBytes) table d (suc (c .row)) 0 c (omega arith) (sym (row-deeper table (c .row) d there 0 deep) ∙ e) in
+        absurd (omega (arith, later .after))
 
-  module _ (x : ℕ) (there : row < length table / rowBytes) (e : x ≡ fieldAt table row 0) where
-    by-depth : isChild table row d ≡ eqb x (suc d)
-    unfolding isChild rowAt
-    by-depth = rw (length-rows, lt-ltb _ _ there, ← e)
+-- ---- a child more in the index
 
-    pub shallow : x ≤ d → false ≡ isChild table row d
-    shallow h = sym (by-depth ∙ ne-eqb x (suc d) (λ f. omega arith))
+module _ (index : List ℕ) (n row first : ℕ) (room : 2 * n + 1 < length index) where
+  abbrev pub with-child : List ℕ
+  with-child = set (set index (2 * n) row) (2 * n + 1) first
 
-    pub by-difference : d < x → eqb (x - d) 1 ≡ isChild table row d
-    by-difference h = go (eqb x (suc d)) refl ∙ sym by-depth
-      where
-        go : (b : Bool) → eqb x (suc d) ≡ b → eqb (x - d) 1 ≡ eqb x (suc d)
-        go true q = let one : x - d ≡ 1 = omega (arith, eqb-true x (suc d) q) in eq-eqb (x - d) 1 one ∙ sym q
-        go false q = let more : x - d ≡ 1 → ⊥ = λ f. eqb-false x (suc d) q (omega arith) in ne-eqb (x - d) 1 more ∙ sym q
+  index-long : length with-child ≡ length index
+  index-long = length-set (set index (2 * n) row) (2 * n + 1) first ∙ length-set index (2 * n) row
 
-  child-here : isChild table row d ≡ true → childAt d (drop row (rows table)) 0 ≡ some (rowAt table row)
-  unfolding isChild
-  child-here e =
-      let t = T-and (ltb row (length (rows table))) (eqb (rowAt table row .depth) (suc d)) (subst⁻¹ T e tt) in
-      row-found table row d (omega (arith, ltb→lt row (length (rows table)) (t .0), length-rows table)) (eqb→eq (rowAt table row .depth) (suc d) (t .1))
+  index-new : inIndex with-child n ≡ child.Row first row
+  index-new =
+      ap₂ child.Row
+      (getD-set-same (set index (2 * n) row) (2 * n + 1) first 0 (omega (arith, length-set index (2 * n) row)))
+      (getD-set-other (set index (2 * n) row) (2 * n + 1) (2 * n) first 0 (λ e. omega arith) ∙ getD-set-same index (2 * n) row 0 (omega arith))
+
+  index-old : (i : ℕ) → i < n → inIndex with-child i ≡ inIndex index i
+  index-old i h =
+      ap₂ child.Row
+      (getD-set-other (set index (2 * n) row) (2 * n + 1) (2 * i + 1) first 0 (λ e. omega arith) ∙ getD-set-other index (2 * n) (2 * i + 1) row 0 (λ e. omega arith))
+      (getD-set-other (set index (2 * n) row) (2 * n + 1) (2 * i) first 0 (λ e. omega arith) ∙ getD-set-other index (2 * n) (2 * i) row 0 (λ e. omega arith))
 
 -- ---- the children of the prototype in a row
 
@@ -122,7 +135,7 @@ module _ (table : List ℕ) (parent : ℕ) where
     pub counts : first ≡ recordsBetween table (suc parent) r % 2 ^ 32
     pub before : first ≡ recordsBefore table parent (childOfRow table parent k)
     pub upvalues : getD (protoIn table parent [] .children) k 0 ≡ fieldAt table r 3
-    pub resumes : (j : ℕ) → childOfRow table parent (k + j) ≡ childAt (rowAt table parent .depth) (drop r (rows table)) j
+    pub resumes : (j : ℕ) → childOfRow table parent (k + 1 + j) ≡ childAt (rowAt table parent .depth) (drop (r + 1) (rows table)) j
 
   pub found-child : (k r first : ℕ) → child.Row first r ≡ child-of k → FoundChild k r first
   unfolding childFrom childOfRow protoIn rowAt recordsBefore
@@ -134,14 +147,21 @@ module _ (table : List ℕ) (parent : ℕ) where
           let number : c .row ≡ r = cc in
           let place : first ≡ (0 + recordsBetween table (suc parent) (c .row)) % 2 ^ 32 = cc in
           let count : first ≡ recordsBetween table (suc parent) (c .row) % 2 ^ 32 = place ∙ ap (λ (n : ℕ). n % 2 ^ 32) (zero-add (recordsBetween table (suc parent) (c .row))) in
-          let v = found (length table / rowBytes) table (rowAt table parent .depth) (suc parent) k c (omega arith) f in
+          let d = rowAt table parent .depth in
+          let v = found (length table / rowBytes) table d (suc parent) k c (omega arith) f in
           record {
             there = omega (arith, v .there);
             later = omega (arith, v .after);
             counts = count ∙ ap (λ (n : ℕ). recordsBetween table (suc parent) n % 2 ^ 32) number;
             before = count ∙ sym (ap (recordsBefore table parent) f);
             upvalues = child-upvalues (rowAt table parent) (drop (suc parent) (rows table)) [] k c f ∙ ap (λ (x : Row). x .upvalues) (v .same) ∙ ap (λ (n : ℕ). fieldAt table n 3) number;
-            resumes = λ j. v .resumes j ∙ ap (λ (n : ℕ). childAt (rowAt table parent .depth) (drop n (rows table)) j) number;
+            resumes = λ j.
+                let on : k + 1 + j ≡ k + suc j = omega arith in
+                let past : suc (c .row) ≡ r + 1 = omega arith in
+                ap (childAt d (drop (suc parent) (rows table))) on
+                ∙ v .resumes (suc j)
+                ∙ row-next table (c .row) d (v .there) j (one-deeper table d (suc parent) k c f)
+                ∙ ap (λ (n : ℕ). childAt d (drop n (rows table)) j) past;
           }
 
   missing : (k : ℕ) → child.Missing ≡ child-of k → childOfRow table parent k ≡ none
@@ -163,64 +183,88 @@ module _ (table : List ℕ) (parent : ℕ) where
       ap (λ (n : ℕ). Bindings n 0) (sym (no-upvalues k (missing k e)))
       ∙ ap (λ (o : Option Row). Bindings (getD (protoIn table parent [] .children) k 0) (recordsBefore table parent o)) (sym (missing k e))
 
-  -- ---- the cursor
-
-  -- the search begins right after the row
-  pub begins : (n : ℕ) → n ≡ length table / rowBytes → Tracks table parent (record { index = 0; row = parent + 1; first = 0; end = n })
-  unfolding childOfRow
-  begins n e =
-      record {
-        later = omega arith;
-        counts = omega (arith, none-between table (suc parent) (parent + 1) (omega arith));
-        resumes = λ k. rw (zero-add, add-one);
-        ends = λ k h. too-few table (suc parent) (rowAt table parent .depth) k (omega arith);
-      }
-
-  -- the same cursor
-  pub unmoved : (u v : Cursor) → v ≡ u → Tracks table parent u → Tracks table parent v
-  unmoved u v e h = subst⁻¹ (Tracks table parent) e h
-
-  -- past the end
-  pub past-end : (u : Cursor) (k : ℕ) → Tracks table parent u → u .end ≤ k → child.Missing ≡ child-of k
-  unfolding childFrom
-  past-end u k v h = sym (ap (childFrom table (suc parent) 0) (v .ends k h))
-
-  -- it is moved to a child that was found, or a child was missed
-  pub moved : (u : Cursor) (k r first : ℕ) → Tracks table parent u → FoundChild k r first → Tracks table parent (record { index = k; row = r; first = first; end = u .end })
-  moved u k r first v f = record { later = f .later; counts = f .counts; resumes = f .resumes; ends = v .ends }
-
-  pub missed : (u : Cursor) (k : ℕ) → Tracks table parent u → child.Missing ≡ child-of k → Tracks table parent (record { index = u .index; row = u .row; first = u .first; end = k })
-  unfolding childOfRow childAt
-  missed u k v e =
-      record {
-        later = v .later;
-        counts = v .counts;
-        resumes = v .resumes;
-        ends = λ j h. element-past-end (children (rowAt table parent .depth) (drop (suc parent) (rows table))) j (omega (arith, element-missing (children (rowAt table parent .depth) (drop (suc parent) (rows table))) k (missing k e)));
-      }
-
-  -- its records are counted from the prototype's own
-  placed : (u : Cursor) → Tracks table parent u → u .first ≡ (0 + recordsBetween table (suc parent) (u .row)) % 2 ^ 32
-  placed u v = v .counts ∙ ap (λ (n : ℕ). n % 2 ^ 32) (sym (zero-add (recordsBetween table (suc parent) (u .row))))
-
-  -- it begins anew, or is resumed
+  -- a search that begins right after the row finds its children
   pub anew : (k d : ℕ) (c : Child) → d ≡ fieldAt table parent 0 → c ≡ search table (parent + 1) d k 0 → c ≡ child-of k
   unfolding childOfRow rowAt
   anew k d c e f = f ∙ rw (e, add-one)
 
-  pub resumed : (u : Cursor) (k d : ℕ) (c : Child) → Tracks table parent u → u .index ≤ k → d ≡ fieldAt table parent 0 → c ≡ search table (u .row) d (k - u .index) (u .first) → c ≡ child-of k
-  unfolding rowAt
-  resumed u k d c v h e f =
-      let whole : u .index + (k - u .index) ≡ k = omega arith in
-      f
-      ∙ ap (λ (n : ℕ). search table (u .row) n (k - u .index) (u .first)) e
-      ∙ from-later table (rowAt table parent .depth) (suc parent) (u .row) (k - u .index) 0 (u .first) (v .later) (placed u v)
-      ∙ sym (ap (childFrom table (suc parent) 0) (ap (childOfRow table parent) (sym whole) ∙ v .resumes (k - u .index)))
+  -- ---- the cursor
 
-  -- the child last found is named again
-  pub named-again : (u : Cursor) (k d : ℕ) (r : Bool) → Tracks table parent u → k ≡ u .index → d ≡ fieldAt table parent 0 → r ≡ isChild table (u .row) d → r ≡ true → child.Row (u .first) (u .row) ≡ child-of k
-  unfolding childFrom rowAt
-  named-again u k d r v same e f t =
-      let whole : k ≡ u .index + 0 = omega arith in
-      let here = child-here table (u .row) (rowAt table parent .depth) (ap (isChild table (u .row)) (sym e) ∙ sym f ∙ t) in
-      ap (λ (n : ℕ). child.Row n (u .row)) (placed u v) ∙ sym (ap (childFrom table (suc parent) 0) (ap (childOfRow table parent) whole ∙ v .resumes 0 ∙ here))
+  module _ (index : List ℕ) where
+    -- the search begins right after the row
+    pub begins : (n : ℕ) → n ≡ length table / rowBytes → RoomForChildren table index → Tracks table parent index (record { known = 0; row = parent + 1; first = 0; end = n })
+    unfolding childOfRow
+    begins n e room =
+        record {
+          room = room;
+          within = omega arith;
+          few = omega arith;
+          indexed = λ i h. absurd (omega arith);
+          later = omega arith;
+          counts = omega (arith, none-between table (suc parent) (parent + 1) (omega arith));
+          resumes = λ k. rw (zero-add, add-one);
+          ends = λ k h. too-few table (suc parent) (rowAt table parent .depth) k (omega arith);
+        }
+
+    -- the same cursor
+    pub unmoved : (u v : Cursor) → v ≡ u → Tracks table parent index u → Tracks table parent index v
+    unmoved u v e h = subst⁻¹ (Tracks table parent index) e h
+
+    module _ (u : Cursor) (v : Tracks table parent index u) where
+      -- past the end
+      pub past-end : (k : ℕ) → u .end ≤ k → child.Missing ≡ child-of k
+      unfolding childFrom
+      past-end k h = sym (ap (childFrom table (suc parent) 0) (v .ends k h))
+
+      -- the next child is the first from the cursor's row on
+      pub next-child : (d : ℕ) (c : Child) → d ≡ fieldAt table parent 0 → c ≡ search table (u .row) d 0 (u .first) → c ≡ child-of (u .known)
+      unfolding rowAt
+      next-child d c e f =
+          let place : u .first ≡ (0 + recordsBetween table (suc parent) (u .row)) % 2 ^ 32 = v .counts ∙ ap (λ (n : ℕ). n % 2 ^ 32) (sym (zero-add (recordsBetween table (suc parent) (u .row)))) in
+          f
+          ∙ ap (λ (n : ℕ). search table (u .row) n 0 (u .first)) e
+          ∙ from-later table (rowAt table parent .depth) (suc parent) (u .row) 0 0 (u .first) (v .later) place
+          ∙ sym (ap (childFrom table (suc parent) 0) (ap (childOfRow table parent) (sym (add-zero (u .known))) ∙ v .resumes 0))
+
+      -- it was missing
+      pub missed : child.Missing ≡ child-of (u .known) → Tracks table parent index (record { known = u .known; row = u .row; first = u .first; end = u .known })
+      unfolding childOfRow childAt
+      missed e =
+          let all = children (rowAt table parent .depth) (drop (suc parent) (rows table)) in
+          record {
+            room = v .room;
+            within = omega arith;
+            few = omega (arith, v .within, v .few);
+            indexed = v .indexed;
+            later = v .later;
+            counts = v .counts;
+            resumes = v .resumes;
+            ends = λ j h. element-past-end all j (omega (arith, element-missing all (u .known) (missing (u .known) e)));
+          }
+
+      -- it was found, and is in the index
+      pub met : u .known < u .end → (r first x next : ℕ) → child.Row first r ≡ child-of (u .known) → x ≡ fieldAt table r 3 → next ≡ (first + x) % 2 ^ 32
+          → Tracks table parent (set (set index (2 * u .known) r) (2 * u .known + 1) first) (record { known = u .known + 1; row = r + 1; first = next; end = u .end })
+      met h r first x next e own sum =
+          let f = found-child (u .known) r first e in
+          let room : 2 * u .known + 1 < length index = omega (arith, v .few, v .room) in
+          record {
+            room = omega (arith, v .room, index-long index (u .known) r first room);
+            within = omega arith;
+            few = v .few;
+            indexed = λ i l. go room i (ltb i (u .known)) refl l;
+            later = omega (arith, f .later);
+            counts =
+                sum
+                ∙ ap₂ (λ (a b : ℕ). (a + b) % 2 ^ 32) (f .counts) (own ∙ sym (between-one table r (f .there)))
+                ∙ wrapped (recordsBetween table (suc parent) r) (recordsBetween table r (r + 1))
+                ∙ ap (λ (n : ℕ). n % 2 ^ 32) (sym (between-join table (suc parent) r (r + 1) (f .later) (omega arith)));
+            resumes = f .resumes;
+            ends = v .ends;
+          }
+        where
+          go : 2 * u .known + 1 < length index → (i : ℕ) (b : Bool) → ltb i (u .known) ≡ b → i < u .known + 1 → inIndex (set (set index (2 * u .known) r) (2 * u .known + 1) first) i ≡ child-of i
+          go room i true t l = let k = ltb-true i (u .known) t in index-old index (u .known) r first room i k ∙ v .indexed i k
+          go room i false t l =
+              let same : i ≡ u .known = omega (arith, ltb-false i (u .known) t) in
+              ap (inIndex (set (set index (2 * u .known) r) (2 * u .known + 1) first)) same ∙ index-new index (u .known) r first room ∙ e ∙ sym (ap child-of same)

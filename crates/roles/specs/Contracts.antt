@@ -1,7 +1,7 @@
 -- What the code's own types stand for: the terms in which its contracts cite the other definitions. Assumes nothing: these are definitions.
 use Prim.Native.Nat.{ℕ, suc, _+_, _-_, _*_, _/_, _%_, _^_, _≤_, _<_}
 use mathlib.Core.Path.{_≡_}
-use mathlib.Core.Bool.{Bool, _&&_, cond}
+use mathlib.Core.Bool.{cond}
 use mathlib.Core.List.{List, [], _∷_}
 use mathlib.Core.Option.{Option, none, some}
 use lib.Dec.{eqb, ltb}
@@ -72,16 +72,25 @@ childFrom table at first (some r) = child.Row ((first + recordsBetween table at 
 unfoldable pub childOfRow : List ℕ → ℕ → ℕ → Option Row
 childOfRow table parent k = childAt (rowAt table parent .depth) (drop (suc parent) (rows table)) k
 
--- there is such a row, one deeper than d
-unfoldable pub isChild : List ℕ → ℕ → ℕ → Bool
-isChild table row d = ltb row (length (rows table)) && eqb (rowAt table row .depth) (suc d)
+-- child i in an index, which has two numbers for each: its row and the index of its first binding record
+abbrev pub inIndex : List ℕ → ℕ → Child
+inIndex index i = child.Row (getD index (2 * i + 1) 0) (getD index (2 * i) 0)
 
--- what a cursor knows of the prototype in row `parent`: from the cursor's row on, its children are counted from the cursor's index; its `first`
--- is how many binding records stand between the prototype's own and those of that row, modulo 2 ^ 32; from its `end` on there are no children
-pub record Tracks (table : List ℕ) (parent : ℕ) (c : Cursor) : Type 0 where
+-- it has room for as many children as there are rows
+abbrev pub RoomForChildren : List ℕ → List ℕ → Type 0
+RoomForChildren table index = 2 * (length table / rowBytes) ≤ length index
+
+-- what a cursor knows of the prototype in row `parent`: its first children stand in the index, as many as the cursor says; from the cursor's row
+-- on, its children are counted from that number; the cursor's `first` is how many binding records stand between the prototype's own and those of
+-- that row, modulo 2 ^ 32; from its `end` on there are no children
+pub record Tracks (table : List ℕ) (parent : ℕ) (index : List ℕ) (c : Cursor) : Type 0 where
+  pub room : RoomForChildren table index
+  pub within : c .known ≤ c .end
+  pub few : c .end ≤ length table / rowBytes
+  pub indexed : (i : ℕ) → i < c .known → inIndex index i ≡ childFrom table (suc parent) 0 (childOfRow table parent i)
   pub later : parent < c .row
   pub counts : c .first ≡ recordsBetween table (suc parent) (c .row) % 2 ^ 32
-  pub resumes : (k : ℕ) → childOfRow table parent (c .index + k) ≡ childAt (rowAt table parent .depth) (drop (c .row) (rows table)) k
+  pub resumes : (k : ℕ) → childOfRow table parent (c .known + k) ≡ childAt (rowAt table parent .depth) (drop (c .row) (rows table)) k
   pub ends : (k : ℕ) → c .end ≤ k → childOfRow table parent k ≡ none
 
 -- ---- companions

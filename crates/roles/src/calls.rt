@@ -3,6 +3,7 @@ use crate::bindings::BINDING_BYTES;
 use crate::bindings::unbind;
 use crate::discovery::discover_roles_lua51;
 use crate::refusals::Acceptance;
+use crate::refusals::MAX_PROTOS;
 use crate::refusals::Refusal;
 use crate::refusals::check_roles;
 use crate::refusals::field_total;
@@ -22,7 +23,7 @@ ghost use Rattle.chunk.specs.Refusals.{maxRows, maxWordBytes, rolesRefusal};
 ghost use Rattle.chunk.specs.Roles.{recordsOf, roleBytes, roles as protoRoles};
 ghost use Rattle.chunk.specs.Table.{rowAt, rowBytes};
 ghost use Rattle.roles.specs.BindingSteps.{BindsFrom, RoomForAllOrNone, boundIn, boundRows};
-ghost use Rattle.roles.specs.Contracts.{answerOf, protoIn};
+ghost use Rattle.roles.specs.Contracts.{RoomForChildren, answerOf, protoIn};
 ghost use Rattle.roles.specs.declared.calls.Answer.the-variants.{Refused};
 ghost use Rattle.roles.specs.declared.refusals.Refusal.the-variants.{BufferTooShort};
 
@@ -31,6 +32,9 @@ pub enum Answer {
     Refused(Refusal),
     Records(u32),
 }
+
+// So many rows are few: for them a short index is made.
+const FEW_ROWS: usize = 256;
 
 // Writes the roles of all words to the front of a buffer, two i32 a word, and answers their number. A refused call writes nothing.
 pub fn write_roles(protos: &[u8], words: &[u8], roles: &mut [u8]) -> Answer
@@ -82,10 +86,54 @@ fn fill_roles(protos: &[u8], words: &[u8], roles: &mut [u8])
     fill_rows(protos, words, roles, &mut no_bindings);
 }
 
-// The roles and the bindings, prototype by prototype.
+// The roles and the bindings, with an index for the search for children: a short one where it will do.
 fn fill_rows(protos: &[u8], words: &[u8], roles: &mut [u8], bindings: &mut [u8])
     requires { ⌜ rolesRefusal (now protos) (now words) (length (now roles)) ≡ none ⌝ }
     requires { ⌜ RoomForAllOrNone (now protos) (length (now bindings)) ⌝ }
+    ensures { λ _. ⌜ now (roles .exit) ≡ rolesAfter (now (protos .entry)) (now (words .entry)) (now (roles .entry)) ⌝ }
+    ensures { λ _. ⌜ now (bindings .exit) ≡ boundRows (now (protos .entry)) (u32s (now (words .entry))) (length (now (protos .entry)) / rowBytes) (now (bindings .entry)) ⌝ }
+{
+    if protos.len() / ROW_BYTES <= FEW_ROWS {
+        fill_few(protos, words, roles, bindings);
+    } else {
+        fill_many(protos, words, roles, bindings);
+    }
+}
+
+// The same for a table of few rows.
+fn fill_few(protos: &[u8], words: &[u8], roles: &mut [u8], bindings: &mut [u8])
+    requires { ⌜ rolesRefusal (now protos) (now words) (length (now roles)) ≡ none ⌝ }
+    requires { ⌜ RoomForAllOrNone (now protos) (length (now bindings)) ⌝ }
+    requires { ⌜ length (now protos) / rowBytes ≤ 256 ⌝ }
+    ensures { λ _. ⌜ now (roles .exit) ≡ rolesAfter (now (protos .entry)) (now (words .entry)) (now (roles .entry)) ⌝ }
+    ensures { λ _. ⌜ now (bindings .exit) ≡ boundRows (now (protos .entry)) (u32s (now (words .entry))) (length (now (protos .entry)) / rowBytes) (now (bindings .entry)) ⌝ }
+{
+    let mut index = [0u32; 2 * FEW_ROWS];
+    fill_indexed(protos, words, roles, bindings, &mut index);
+}
+
+// The same for any table.
+fn fill_many(protos: &[u8], words: &[u8], roles: &mut [u8], bindings: &mut [u8])
+    requires { ⌜ rolesRefusal (now protos) (now words) (length (now roles)) ≡ none ⌝ }
+    requires { ⌜ RoomForAllOrNone (now protos) (length (now bindings)) ⌝ }
+    ensures { λ _. ⌜ now (roles .exit) ≡ rolesAfter (now (protos .entry)) (now (words .entry)) (now (roles .entry)) ⌝ }
+    ensures { λ _. ⌜ now (bindings .exit) ≡ boundRows (now (protos .entry)) (u32s (now (words .entry))) (length (now (protos .entry)) / rowBytes) (now (bindings .entry)) ⌝ }
+{
+    let mut index = [0u32; 2 * MAX_PROTOS];
+    fill_indexed(protos, words, roles, bindings, &mut index);
+}
+
+// The same with an index that has room, prototype by prototype.
+fn fill_indexed(
+    protos: &[u8],
+    words: &[u8],
+    roles: &mut [u8],
+    bindings: &mut [u8],
+    index: &mut [u32],
+)
+    requires { ⌜ rolesRefusal (now protos) (now words) (length (now roles)) ≡ none ⌝ }
+    requires { ⌜ RoomForAllOrNone (now protos) (length (now bindings)) ⌝ }
+    requires { ⌜ RoomForChildren (now protos) (now index) ⌝ }
     ensures { λ _. ⌜ now (roles .exit) ≡ rolesAfter (now (protos .entry)) (now (words .entry)) (now (roles .entry)) ⌝ }
     ensures { λ _. ⌜ now (bindings .exit) ≡ boundRows (now (protos .entry)) (u32s (now (words .entry))) (length (now (protos .entry)) / rowBytes) (now (bindings .entry)) ⌝ }
 {
@@ -96,7 +144,17 @@ fn fill_rows(protos: &[u8], words: &[u8], roles: &mut [u8], bindings: &mut [u8])
     while row < rows {
         let next = first + field(protos, row, WORDS) as usize;
         base += field(protos, row, UPVALUES) as usize;
-        fill_row(protos, words, roles, bindings, row, first, next, base);
+        fill_row(
+            protos,
+            words,
+            roles,
+            bindings,
+            row,
+            first,
+            next,
+            base,
+            index,
+        );
         first = next;
         row += 1;
     }
@@ -112,11 +170,13 @@ fn fill_row(
     first: usize,
     next: usize,
     base: usize,
+    index: &mut [u32],
 )
     requires { ⌜ (rowBytes * row + rowBytes ≤ length (now protos)) × (length (now protos) / rowBytes ≤ maxRows) ⌝ }
     requires { ⌜ first + rowAt (now protos) row .words ≡ next ⌝ }
     requires { ⌜ (4 * next ≤ maxWordBytes) × (4 * next ≤ length (now words)) × (roleBytes * next ≤ length (now roles)) ⌝ }
     requires { ⌜ BindsFrom (now protos) row base (length (now bindings)) ⌝ }
+    requires { ⌜ RoomForChildren (now protos) (now index) ⌝ }
     ensures { λ _. ⌜ now (roles .exit) ≡ overwrite (now (roles .entry)) (roleBytes * first) (recordsOf (protoRoles (protoIn (now (protos .entry)) row (drop first (u32s (now (words .entry))))))) ⌝ }
     ensures { λ _. ⌜ now (bindings .exit) ≡ boundIn (now (protos .entry)) row (writes (protoIn (now (protos .entry)) row (drop first (u32s (now (words .entry)))))) (now (bindings .entry)) ⌝ }
 {
@@ -127,5 +187,6 @@ fn fill_row(
         &mut roles[ROLE_BYTES * first..ROLE_BYTES * next],
         bindings,
         base,
+        index,
     );
 }

@@ -21,7 +21,7 @@ ghost use Rattle.chunk.specs.Refusals.{maxRows, maxWordBytes};
 ghost use Rattle.chunk.specs.Roles.{ClosureBinding, recordsOf, roleBytes, roles};
 ghost use Rattle.chunk.specs.Table.{rowAt, rowBytes};
 ghost use Rattle.roles.specs.BindingSteps.{BindsFrom, boundIn};
-ghost use Rattle.roles.specs.Contracts.{Tracks, childBindings, claimedRoles, companionsOf, protoIn};
+ghost use Rattle.roles.specs.Contracts.{RoomForChildren, Tracks, childBindings, claimedRoles, companionsOf, protoIn};
 ghost use Rattle.roles.specs.declared.discovery.Companions.the-variants.{Extra, None};
 
 // The opcodes that own words, by their numbers (docs/DECISIONS.md says why not by `Opcode51`).
@@ -44,7 +44,7 @@ pub struct Claim {
 }
 
 // Writes the roles of a row's words to the front of its part of the role buffer, and binds the upvalues of its children; the binding records
-// of the rows after it begin at index `base`. Each word is read at most once: an owner marks its companions, as far as they exist, a CLOSURE lets
+// of the rows after it begin at index `base`. `index` is for the search for children. Each word is read at most once: an owner marks its companions, as far as they exist, a CLOSURE lets
 // them bind, and the next word to be looked at is the one after them.
 pub fn discover_roles_lua51(
     protos: &[u8],
@@ -53,19 +53,21 @@ pub fn discover_roles_lua51(
     out: &mut [u8],
     bindings: &mut [u8],
     base: usize,
+    index: &mut [u32],
 )
     requires { ⌜ (rowBytes * row + rowBytes ≤ length (now protos)) × (length (now protos) / rowBytes ≤ maxRows) ⌝ }
     requires { ⌜ rowAt (now protos) row .words ≡ length (now code) / 4 ⌝ }
     requires { ⌜ (length (now code) ≤ maxWordBytes) × (2 * length (now code) ≤ length (now out)) ⌝ }
     requires { ⌜ BindsFrom (now protos) row base (length (now bindings)) ⌝ }
+    requires { ⌜ RoomForChildren (now protos) (now index) ⌝ }
     ensures { λ _. ⌜ now (out .exit) ≡ overwrite (now (out .entry)) 0 (recordsOf (roles (protoIn (now (protos .entry)) row (u32s (now (code .entry)))))) ⌝ }
     ensures { λ _. ⌜ now (bindings .exit) ≡ boundIn (now (protos .entry)) row (writes (protoIn (now (protos .entry)) row (u32s (now (code .entry))))) (now (bindings .entry)) ⌝ }
 {
     let n = code.len() / 4;
-    let mut cursor = first_child(protos, row);
+    let mut cursor = first_child(protos, row, index);
     let mut pc = 0;
     while pc < n {
-        let claim = claim_of(protos, row, cursor, read_u32(code, 4 * pc));
+        let claim = claim_of(protos, row, index, cursor, read_u32(code, 4 * pc));
         cursor = claim.cursor;
         write_role(out, pc, Lua51PhysicalRole::Instruction);
         let companions = claim.companions;
@@ -75,13 +77,14 @@ pub fn discover_roles_lua51(
     }
 }
 
-// The cursor before the first child of a row.
-fn first_child(protos: &[u8], row: usize) -> Cursor
+// The cursor before the first child of a row: whatever the index has, no child is known.
+fn first_child(protos: &[u8], row: usize, index: &[u32]) -> Cursor
     requires { ⌜ (rowBytes * row + rowBytes ≤ length (now protos)) × (length (now protos) / rowBytes ≤ maxRows) ⌝ }
-    ensures { λ r. ⌜ Tracks (now (protos .entry)) row r ⌝ }
+    requires { ⌜ RoomForChildren (now protos) (now index) ⌝ }
+    ensures { λ r. ⌜ Tracks (now (protos .entry)) row (now (index .entry)) r ⌝ }
 {
     Cursor {
-        index: 0,
+        known: 0,
         row: row + 1,
         first: 0,
         end: (protos.len() / ROW_BYTES) as u32,
@@ -89,15 +92,15 @@ fn first_child(protos: &[u8], row: usize) -> Cursor
 }
 
 // What an executable word of the row owns.
-fn claim_of(protos: &[u8], row: usize, cursor: Cursor, word: u32) -> Claim
-    requires { ⌜ rowBytes * row + rowBytes ≤ length (now protos) ⌝ }
-    requires { ⌜ Tracks (now protos) row cursor ⌝ }
+fn claim_of(protos: &[u8], row: usize, index: &mut [u32], cursor: Cursor, word: u32) -> Claim
+    requires { ⌜ (rowBytes * row + rowBytes ≤ length (now protos)) × (length (now protos) / rowBytes ≤ maxRows) ⌝ }
+    requires { ⌜ Tracks (now protos) row (now index) cursor ⌝ }
     ensures { λ r. ⌜ r .companions ≡ companionsOf (now (protos .entry)) row word ⌝ }
-    ensures { λ r. ⌜ Tracks (now (protos .entry)) row (r .cursor) ⌝ }
+    ensures { λ r. ⌜ Tracks (now (protos .entry)) row (now (index .exit)) (r .cursor) ⌝ }
 {
     let w = RawInstruction51::decode(word);
     if w.opcode_num == CLOSURE {
-        return claim_child(protos, row, cursor, w.bx);
+        return claim_child(protos, row, index, cursor, w.bx);
     }
     if w.opcode_num == SETLIST {
         return claim_extra(cursor, w.c);
@@ -109,13 +112,13 @@ fn claim_of(protos: &[u8], row: usize, cursor: Cursor, word: u32) -> Claim
 }
 
 // A CLOSURE that names child k owns a word for each of its upvalues, where there is such a child.
-fn claim_child(protos: &[u8], row: usize, cursor: Cursor, k: u32) -> Claim
-    requires { ⌜ rowBytes * row + rowBytes ≤ length (now protos) ⌝ }
-    requires { ⌜ Tracks (now protos) row cursor ⌝ }
+fn claim_child(protos: &[u8], row: usize, index: &mut [u32], cursor: Cursor, k: u32) -> Claim
+    requires { ⌜ (rowBytes * row + rowBytes ≤ length (now protos)) × (length (now protos) / rowBytes ≤ maxRows) ⌝ }
+    requires { ⌜ Tracks (now protos) row (now index) cursor ⌝ }
     ensures { λ r. ⌜ r .companions ≡ childBindings (now (protos .entry)) row k ⌝ }
-    ensures { λ r. ⌜ Tracks (now (protos .entry)) row (r .cursor) ⌝ }
+    ensures { λ r. ⌜ Tracks (now (protos .entry)) row (now (index .exit)) (r .cursor) ⌝ }
 {
-    let found = cursor.find(protos, row, k);
+    let found = cursor.find(protos, row, index, k);
     let cursor = found.cursor;
     let child = found.child;
     match child {

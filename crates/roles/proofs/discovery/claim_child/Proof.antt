@@ -10,18 +10,18 @@ use Rattle.roles.proofs.discovery.claim_child.Tie as tie
 
 field-requires : tie.Need-field-requires
 field-requires c κs =
-    let f = found-child _ _ _ _ _ (sym (c .before .child .given .1) ∙ c .before .before .before .before .find .ensures .0) in
+    let f = found-child _ _ _ _ _ (sym (c .before .child .given .1) ∙ c .before .before .before .before .before .before .find .ensures .0) in
     (omega (arith, f .there), omega arith)
 
 missing : tie.Need-returns
 missing c =
-    let e = c .before .before .before .find .ensures in
+    let e = c .before .before .before .before .before .find .ensures in
     (missing-child _ _ _ (sym (c .enum-told .given .1) ∙ e .0), e .1)
 
 found : tie.Need-returns-2
 unfolding childBindings
 found c =
-    let e = c .before .before .before .before .before .find .ensures in
+    let e = c .before .before .before .before .before .before .before .find .ensures in
     let f = found-child _ _ _ _ _ (sym (c .before .before .child .given .1) ∙ e .0) in
     (ap₂ Bindings (c .field .ensures ∙ sym (f .upvalues)) (f .before), e .1)
 
@@ -29,9 +29,11 @@ pub claim-child-spec : {M : Type 1} → statement M
 claim-child-spec =
     tie.close
     (tie.spec
-    (λ c κs. (c .before .pre .0, c .before .pre .1))
+    (λ c κs. let pre = c .before .before .before .pre in (pre .0, pre .1))
     (λ c. search needs)
     (λ c. search needs)
     field-requires
+    (λ c. search needs)
     missing
+    (λ c. search needs)
     found)

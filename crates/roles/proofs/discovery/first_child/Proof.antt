@@ -6,4 +6,4 @@ use Rattle.roles.proofs.discovery.first_child.Statement.{statement}
 use Rattle.roles.proofs.discovery.first_child.Tie as tie
 
 pub first-child-spec : {M : Type 1} → statement M
-first-child-spec = tie.close (tie.spec (λ c. omega arith) (λ c. omega arith) (λ c. begins _ _ _ refl))
+first-child-spec = tie.close (tie.spec (λ c. omega arith) (λ c. omega arith) (λ c. begins _ _ _ _ refl (c .pre .1)))

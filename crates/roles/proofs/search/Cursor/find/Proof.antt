@@ -1,25 +1,41 @@
--- `Cursor::find` meets its contract. Assumes nothing.
-use mathlib.Core.Path.{sym, _∙_}
-use borrow.Author.Needs.{needs}
-use Rattle.roles.proofs.SearchLaws.{past-end, found-child, moved, missed}
+-- `Cursor::find` meets its contract: what the cursor knows stays true, and its children known come nearer to its end. Assumes nothing.
+use Prim.Native.Nat.{_-_}
+use native.Mathlib.Omega.{arith}
+use mathlib.Core.Path.{_≡_, refl, _∙_}
+use lib.ListN.{length}
+use Rattle.roles.specs.Contracts.{Tracks}
+use Rattle.roles.proofs.SearchLaws.{past-end, found-child}
 use Rattle.roles.proofs.search.Cursor.find.Statement.{statement}
 use Rattle.roles.proofs.search.Cursor.find.Tie as tie
 
-past : tie.Need-returns
-past c = let pre = c .before .before .before .pre in (past-end _ _ _ _ (pre .1) (c .if1 .taken), pre .1)
+abbrev Inv : tie.InvT-loop
+Inv protos parent index₀ k cursor₀ index cursor = (length index ≡ length index₀) × Tracks protos parent index cursor
 
-missing : tie.Need-returns-2
-missing c =
-    let e = c .before .before .search .ensures in
-    (sym (c .enum-told .given .1) ∙ e, missed _ _ _ _ (c .before .before .before .before .before .before .pre .1) (sym (c .enum-told .given .1) ∙ e))
-
-found : tie.Need-returns-3
-found c =
-    let b = c .before .before .before in
-    let e = sym (c .before .first .given .1) ∙ b .search .ensures in
-    (e, moved _ _ _ _ _ _ (b .before .before .before .before .pre .1) (found-child _ _ _ _ _ e))
+abbrev μ : tie.MeasureT-loop
+μ protos parent index₀ k cursor₀ index cursor = cursor .end - cursor .known
 
 pub find-spec : {M : Type 1} → statement M
 find-spec =
     tie.close
-    (tie.spec past (λ c κs. let b = c .before .before .before in (b .pre .0, b .pre .1)) (λ c. search needs) (λ c. search needs) missing found)
+    (tie.spec
+    Inv
+    μ
+    (λ c. (refl, c .before .before .pre .1))
+    (λ c. c .before .before .before .before .loop .inv .0)
+    (λ c. let l = c .before .before .before .before .loop in (past-end _ _ _ _ (l .inv .1) _ (c .if2 .taken), l .inv .1))
+    (λ c κs. let l = c .before .before .before .before .before in (l .before .before .before .pre .0, (l .loop .inv .1, omega arith)))
+    (λ c. c .before .before .find-next .ensures .1)
+    (λ c. let f = c .before .before .find-next in (f .kept .1 .1 .1 .0 ∙ c .before .before .before .before .before .before .before .before .loop .inv .0, f .ensures .0))
+    (λ c. omega arith)
+    (λ c. omega arith)
+    (λ c. omega arith)
+    (λ c. let v = c .before .before .before .loop .inv .1 in omega (arith, v .within, v .few, v .room))
+    (λ c. omega arith)
+    (λ c. let v = c .before .before .before .before .loop .inv .1 in omega (arith, v .within, v .few, v .room))
+    (λ c.
+    let l = c .before .before .before .before in
+    let a = l .before .before .before in
+    let child = l .loop .inv .1 .indexed (a .args .k) (omega arith) in
+    omega (arith, found-child _ _ _ _ _ child .there, a .pre .0 .1))
+    (λ c. c .before .before .before .before .loop .inv .0)
+    (λ c. let v = c .before .before .before .before .loop .inv .1 in (v .indexed _ (omega arith), v)))

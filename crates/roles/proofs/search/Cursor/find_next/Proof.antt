@@ -26,13 +26,6 @@ write-first c =
     let pre = c .before .before .before .before .before .before .before .before .pre in
     simp length-set (omega (arith, pre .1 .0 .few, pre .1 .0 .room))
 
-add-row : tie.Need-add-t16
-add-row c =
-    let f = c .before .before .before .before .before in
-    let pre = f .before .before .before .before .pre in
-    let e = sym (c .before .before .before .first .given .1) ∙ next-child _ _ _ _ (pre .1 .0) _ _ (f .before .field .ensures) (f .find-child .ensures) in
-    omega (arith, found-child _ _ _ _ _ e .there)
-
 field-requires : tie.Need-field-requires-2
 field-requires c κs =
     let f = c .before .before .before .before .before in
@@ -65,7 +58,11 @@ find-next-spec =
     (λ c. search needs)
     write-first
     (λ c. search needs)
-    add-row
+    (λ c.
+    let f = c .before .before .before .before .before in
+    let pre = f .before .before .before .before .pre in
+    let e = sym (c .before .before .before .first .given .1) ∙ next-child _ _ _ _ (pre .1 .0) _ _ (f .before .field .ensures) (f .find-child .ensures) in
+    omega (arith, found-child _ _ _ _ _ e .there))
     field-requires
     (λ c κs. search needs)
     (λ c. search needs)

@@ -103,20 +103,20 @@ one-deeper table d at k c e =
 
 -- ---- a child more in the index
 
-module _ (index : List ℕ) (n row first : ℕ) (room : 2 * n + 1 < length index) where
-  abbrev pub with-child : List ℕ
-  with-child = set (set index (2 * n) row) (2 * n + 1) first
+abbrev pub with-child : List ℕ → ℕ → ℕ → ℕ → List ℕ
+with-child index n row first = set (set index (2 * n) row) (2 * n + 1) first
 
-  index-long : length with-child ≡ length index
+module _ (index : List ℕ) (n row first : ℕ) (room : 2 * n + 1 < length index) where
+  index-long : length (with-child index n row first) ≡ length index
   index-long = length-set (set index (2 * n) row) (2 * n + 1) first ∙ length-set index (2 * n) row
 
-  index-new : inIndex with-child n ≡ child.Row first row
+  index-new : inIndex (with-child index n row first) n ≡ child.Row first row
   index-new =
       ap₂ child.Row
       (getD-set-same (set index (2 * n) row) (2 * n + 1) first 0 (omega (arith, length-set index (2 * n) row)))
       (getD-set-other (set index (2 * n) row) (2 * n + 1) (2 * n) first 0 (λ e. omega arith) ∙ getD-set-same index (2 * n) row 0 (omega arith))
 
-  index-old : (i : ℕ) → i < n → inIndex with-child i ≡ inIndex index i
+  index-old : (i : ℕ) → i < n → inIndex (with-child index n row first) i ≡ inIndex index i
   index-old i h =
       ap₂ child.Row
       (getD-set-other (set index (2 * n) row) (2 * n + 1) (2 * i + 1) first 0 (λ e. omega arith) ∙ getD-set-other index (2 * n) (2 * i + 1) row 0 (λ e. omega arith))
@@ -244,7 +244,7 @@ module _ (table : List ℕ) (parent : ℕ) where
 
       -- it was found, and is in the index
       pub met : u .known < u .end → (r first x next : ℕ) → child.Row first r ≡ child-of (u .known) → x ≡ fieldAt table r 3 → next ≡ (first + x) % 2 ^ 32
-          → Tracks table parent (set (set index (2 * u .known) r) (2 * u .known + 1) first) (record { known = u .known + 1; row = r + 1; first = next; end = u .end })
+          → Tracks table parent (with-child index (u .known) r first) (record { known = u .known + 1; row = r + 1; first = next; end = u .end })
       met h r first x next e own sum =
           let f = found-child (u .known) r first e in
           let room : 2 * u .known + 1 < length index = omega (arith, v .few, v .room) in
@@ -263,8 +263,8 @@ module _ (table : List ℕ) (parent : ℕ) where
             ends = v .ends;
           }
         where
-          go : 2 * u .known + 1 < length index → (i : ℕ) (b : Bool) → ltb i (u .known) ≡ b → i < u .known + 1 → inIndex (set (set index (2 * u .known) r) (2 * u .known + 1) first) i ≡ child-of i
+          go : 2 * u .known + 1 < length index → (i : ℕ) (b : Bool) → ltb i (u .known) ≡ b → i < u .known + 1 → inIndex (with-child index (u .known) r first) i ≡ child-of i
           go room i true t l = let k = ltb-true i (u .known) t in index-old index (u .known) r first room i k ∙ v .indexed i k
           go room i false t l =
               let same : i ≡ u .known = omega (arith, ltb-false i (u .known) t) in
-              ap (inIndex (set (set index (2 * u .known) r) (2 * u .known + 1) first)) same ∙ index-new index (u .known) r first room ∙ e ∙ sym (ap child-of same)
+              ap (inIndex (with-child index (u .known) r first)) same ∙ index-new index (u .known) r first room ∙ e ∙ sym (ap child-of same)

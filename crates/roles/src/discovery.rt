@@ -44,8 +44,8 @@ pub struct Claim {
 }
 
 // Writes the roles of a row's words to the front of its part of the role buffer, and binds the upvalues of its children; the binding records
-// of the rows after it begin at index `base`. `index` is for the search for children. Each word is read at most once: an owner marks its companions, as far as they exist, a CLOSURE lets
-// them bind, and the next word to be looked at is the one after them.
+// of the rows after it begin at index `base`. The children that are found are put into `index`. Each word is read at most once: an owner marks
+// its companions, as far as they exist, a CLOSURE lets them bind, and the next word to be looked at is the one after them.
 pub fn discover_roles_lua51(
     protos: &[u8],
     row: usize,

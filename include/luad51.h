@@ -19,16 +19,15 @@
  *             same pointer, or point into another slice or buffer of the call, or to its end.
  *   others    during a call nothing else writes its slices and buffers, or reads its buffers
  * A call writes to its buffers and to nothing else. Nothing is allocated, nothing is kept after a call, there is no
- * global state, and no function of the C library is called: any number of threads and signal handlers may call at the
- * same time, each with buffers of its own; they may share an image, which is only read.
+ * global state, and no function of the C library is called but memset: any number of threads and signal handlers may
+ * call at the same time, each with buffers of its own; they may share an image, which is only read.
  * The archive is for x86-64 with the System V calling convention, as on Linux.
  *
  * A call takes at most LUAD51_STACK_BYTES of stack. Only the search for a child of a CLOSURE takes much: it goes one
- * call deeper for each row that it passes, 48 bytes each as compiled for x86-64. The check also goes one call deeper
- * for each level of nesting.
- * The time is linear in words and records, and in rows times the depth of nesting, where the CLOSUREs of a prototype
- * name its children in rising order, as compilers write them, or name the same one again. A smaller number starts the
- * search at the prototype's first row again, so an image made to do so can take time in proportion to words times rows.
+ * call deeper for each row that it passes, 48 bytes each as compiled for x86-64, and has an index of the children found,
+ * 131072 bytes where there are more than 256 rows. The check also goes one call deeper for each level of nesting.
+ * The time is linear in words and records, and in rows times the depth of nesting, in whatever order CLOSUREs name
+ * children.
  *
  * The result of a call is figure + 2^32 * refusal + 2^40 * verdict; bits 48 to 63 are 0.
  *   accepted  refusal LUAD51_ACCEPTED; the figure is the number of role records, one for each word, or, of
@@ -75,7 +74,7 @@ extern "C" {
 #define LUAD51_DIAGNOSTIC_BYTES 16
 
 /* Stack that a call takes at most, as compiled for x86-64: measured, not proved. */
-#define LUAD51_STACK_BYTES 900000
+#define LUAD51_STACK_BYTES 1000000
 
 /* Why a call was refused: the least number whose condition holds. */
 enum luad51_refusal_number {

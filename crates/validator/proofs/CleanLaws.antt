@@ -15,7 +15,7 @@ use Rattle.opcodes.specs.Lists.{elem, every, only, upFrom, all-nil, all-cons}
 use Rattle.opcodes.specs.Words.{Field, B, C, decoded, opcode, operand, fieldA, fieldBx, is, isConstant, constantIndex, withoutA, withSBx, LOADK, GETGLOBAL, SETGLOBAL, GETUPVAL, SETUPVAL, EQ, LT, LE, SELF, FORPREP, FORLOOP, TFORLOOP, CALL, TAILCALL, RETURN, VARARG, SETLIST, CLOSURE, LOADBOOL}
 use Rattle.opcodes.specs.declared.RawInstruction51.{RawInstruction51}
 use Rattle.opcodes.proofs.AllLaws.{all-flatten}
-use Rattle.opcodes.proofs.FieldLaws.{field-below, operand-below}
+use Rattle.opcodes.proofs.FieldLaws.{operand-below}
 use Rattle.opcodes.proofs.TestLaws.{T-and, T-true, T-false, double-not, true≢false, by-or}
 use Rattle.chunk.specs.Roles.{Role, Executable, executableAt, isExecutable, roleAt, wordAt, bindingWords}
 use Rattle.chunk.specs.Table.{Proto}
@@ -29,9 +29,10 @@ use Rattle.validator.specs.Clean.{FlowKept, OperandsBelow, limitsOf, sha
 use Rattle.validator.specs.Contracts.{Describes, Limits, Stands}
 use Rattle.validator.specs.declared.prototype.Prototype.{Prototype}
 use Rattle.validator.proofs.DescribedLaws.{looked-up, word-read}
+use Rattle.validator.proofs.FaultLaws.{raw-of, split-again}
 use Rattle.validator.proofs.OwnLaws.{executes}
 use Rattle.validator.proofs.BindingLaws.{bindings-end, only-closures}
-use Rattle.validator.proofs.OperandLaws.{skips}
+use Rattle.validator.proofs.OperandLaws.{skips, split-number, split-a, split-b, split-c, split-bx}
 use Rattle.validator.proofs.WordLaws.{target-sum}
 
 -- ---- what an opcode has in the table
@@ -213,10 +214,6 @@ pub few-ways : (n : ℕ) → n < 38 → shape n / 16777216 < 16
 unfolding shapes
 few-ways n h = bounded (λ m. shape m / 16777216) 16 n tt h
 
-pub bx-below : (v : ℕ) (w : RawInstruction51) → w ≡ decoded v → w .bx < 262144
-unfolding decoded
-bx-below v w e = subst⁻¹ (λ (x : RawInstruction51). x .bx < 262144) e (field-below 14 18 v)
-
 module _ (q : Prototype) (limits : List ℕ) (s : ℕ) (w : RawInstruction51)
     (pre : (limits ≡ limitsOf q) × (w ≡ decoded (w .raw)) × (w .«opcode_num» < 38) × (s ≡ shape (w .«opcode_num»))) where
   ten : length limits ≡ 10
@@ -232,35 +229,15 @@ module _ (q : Prototype) (limits : List ℕ) (s : ℕ) (w : RawInstruction51)
   place-bx = rw (pre .3, ten) (bounded (λ m. shape m / 16 % 16) 10 (w .«opcode_num») tt (pre .2))
 
   pub place-b : (s / 256 % 16 < 16) × (s / 256 % 16 + 1 < length limits) × (w .b < 512)
-  unfolding shapes decoded
-  place-b = (omega arith, rw (pre .3, ten) (bounded (λ m. shape m / 256 % 16 + 1) 10 (w .«opcode_num») tt (pre .2)), subst⁻¹ (λ (x : RawInstruction51). x .b < 512) (pre .1) (operand-below B (w .raw)))
+  unfolding shapes
+  place-b = (omega arith, rw (pre .3, ten) (bounded (λ m. shape m / 256 % 16 + 1) 10 (w .«opcode_num») tt (pre .2)), subst⁻¹ (λ (n : ℕ). n < 512) (split-b w (pre .1)) (operand-below B (w .raw)))
 
   pub place-c : (s / 4096 % 16 < 16) × (s / 4096 % 16 + 1 < length limits) × (w .c < 512)
-  unfolding shapes decoded
-  place-c = (omega arith, rw (pre .3, ten) (bounded (λ m. shape m / 4096 % 16 + 1) 10 (w .«opcode_num») tt (pre .2)), subst⁻¹ (λ (x : RawInstruction51). x .c < 512) (pre .1) (operand-below C (w .raw)))
-
-  number : w .«opcode_num» ≡ opcode (w .raw)
-  unfolding decoded
-  number = ap (λ (x : RawInstruction51). x .«opcode_num») (pre .1)
+  unfolding shapes
+  place-c = (omega arith, rw (pre .3, ten) (bounded (λ m. shape m / 4096 % 16 + 1) 10 (w .«opcode_num») tt (pre .2)), subst⁻¹ (λ (n : ℕ). n < 512) (split-c w (pre .1)) (operand-below C (w .raw)))
 
   of-opcode : s ≡ shape (opcode (w .raw))
-  of-opcode = pre .3 ∙ ap shape number
-
-  value-a : w .a ≡ fieldA (w .raw)
-  unfolding decoded
-  value-a = ap (λ (x : RawInstruction51). x .a) (pre .1)
-
-  value-b : w .b ≡ operand B (w .raw)
-  unfolding decoded
-  value-b = ap (λ (x : RawInstruction51). x .b) (pre .1)
-
-  value-c : w .c ≡ operand C (w .raw)
-  unfolding decoded
-  value-c = ap (λ (x : RawInstruction51). x .c) (pre .1)
-
-  value-bx : w .bx ≡ fieldBx (w .raw)
-  unfolding decoded
-  value-bx = ap (λ (x : RawInstruction51). x .bx) (pre .1)
+  of-opcode = pre .3 ∙ ap shape (split-number w (pre .1))
 
   -- a test with a place and a value
   below-of : (x y : ℕ) (f : ℕ → ℕ) → x ≡ y → ltb x (getD limits (f s) 0) ≡ true → ltb y (getD (limitsOf q) (f (shape (opcode (w .raw)))) 0) ≡ true
@@ -279,16 +256,16 @@ module _ (q : Prototype) (limits : List ℕ) (s : ℕ) (w : RawInstruction51)
   span-of x y f e h =
       subst (λ (z : ℕ). leb (fieldA (w .raw) + f (shape (opcode (w .raw))) / 2 + f (shape (opcode (w .raw))) % 2 * z) (q .stack + 1) ≡ true) e
       (subst (λ (n : ℕ). leb (fieldA (w .raw) + f n / 2 + f n % 2 * x) (q .stack + 1) ≡ true) of-opcode
-      (subst (λ (a : ℕ). leb (a + f s / 2 + f s % 2 * x) (q .stack + 1) ≡ true) value-a h))
+      (subst (λ (a : ℕ). leb (a + f s / 2 + f s % 2 * x) (q .stack + 1) ≡ true) (split-a w (pre .1)) h))
 
   pub operands-of : ltb (w .a) (getD limits (s % 16) 0) ≡ true → ltb (w .bx) (getD limits (s / 16 % 16) 0) ≡ true
       → ltb (w .b % 256) (getD limits (s / 256 % 16 + w .b / 256) 0) ≡ true → ltb (w .c % 256) (getD limits (s / 4096 % 16 + w .c / 256) 0) ≡ true
       → leb (w .a + s / 65536 % 16 / 2 + s / 65536 % 16 % 2 * w .b) (q .stack + 1) ≡ true → leb (w .a + s / 1048576 % 16 / 2 + s / 1048576 % 16 % 2 * w .c) (q .stack + 1) ≡ true
       → OperandsBelow q (w .raw)
   operands-of a bx b c sb sc =
-      operands q (w .raw) (subst (λ (n : ℕ). n < 38) number (pre .2)) (below-of _ _ (λ n. n % 16) value-a a) (below-of _ _ (λ n. n / 16 % 16) value-bx bx)
-      (field-of _ _ (λ n. n / 256 % 16) value-b b) (field-of _ _ (λ n. n / 4096 % 16) value-c c)
-      (span-of _ _ (λ n. n / 65536 % 16) value-b sb) (span-of _ _ (λ n. n / 1048576 % 16) value-c sc)
+      operands q (w .raw) (subst (λ (n : ℕ). n < 38) (split-number w (pre .1)) (pre .2)) (below-of _ _ (λ n. n % 16) (split-a w (pre .1)) a) (below-of _ _ (λ n. n / 16 % 16) (split-bx w (pre .1)) bx)
+      (field-of _ _ (λ n. n / 256 % 16) (split-b w (pre .1)) b) (field-of _ _ (λ n. n / 4096 % 16) (split-c w (pre .1)) c)
+      (span-of _ _ (λ n. n / 65536 % 16) (split-b w (pre .1)) sb) (span-of _ _ (λ n. n / 1048576 % 16) (split-c w (pre .1)) sc)
 
 -- ---- where a word goes
 
@@ -373,12 +350,11 @@ module _ (p : Proto) (q : Prototype) (code roles : List ℕ) (d : Describes p q 
   -- the word that was read
   pub word-clean : pc < length code / 4 → (b : Bool) → b ≡ not (isExecutable (roleIn roles pc)) → b ≡ false → (v : ℕ) (w : RawInstruction51) → v ≡ u32At code (4 * pc) → w ≡ decoded v → w .«opcode_num» ≤ 37
       → OperandsBelow q (w .raw) → FlowKept p (shape (w .«opcode_num») / 16777216) pc (w .bx) → diagnosticsAt p pc ≡ []
-  unfolding decoded
   word-clean there b e f v w read split known o k =
-      let raw : w .raw ≡ wordAt p pc = ap (λ (x : RawInstruction51). x .raw) split ∙ read ∙ word-read p q code roles d pc there in
-      let v-word : v ≡ wordAt p pc = read ∙ word-read p q code roles d pc there in
-      let number : w .«opcode_num» ≡ opcode (wordAt p pc) = ap (λ (x : RawInstruction51). x .«opcode_num») split ∙ ap opcode v-word in
-      let bx : w .bx ≡ fieldBx (wordAt p pc) = ap (λ (x : RawInstruction51). x .bx) split ∙ ap fieldBx v-word in
+      let again = split-again v w split in
+      let raw : w .raw ≡ wordAt p pc = raw-of v w split ∙ read ∙ word-read p q code roles d pc there in
+      let number : w .«opcode_num» ≡ opcode (wordAt p pc) = split-number w again ∙ ap opcode raw in
+      let bx : w .bx ≡ fieldBx (wordAt p pc) = split-bx w again ∙ ap fieldBx raw in
       clean p q pc (d .limits) (executes p q code roles d pc there b e f) (omega (arith, number)) (subst (OperandsBelow q) raw o)
       (subst (λ (n : ℕ). FlowKept p (shape (opcode (wordAt p pc)) / 16777216) pc n) bx (subst (λ (n : ℕ). FlowKept p (shape n / 16777216) pc (w .bx)) number k))
 

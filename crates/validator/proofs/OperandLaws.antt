@@ -30,6 +30,33 @@ skips = EQ ∷ LT ∷ LE ∷ TEST ∷ TESTSET ∷ TFORLOOP ∷ []
 
 -- ---- the opcode and the fields
 
+-- of a word that was split
+module _ (w : RawInstruction51) (split : w ≡ decoded (w .raw)) where
+  pub split-number : w .«opcode_num» ≡ opcode (w .raw)
+  unfolding decoded
+  split-number = ap (λ (x : RawInstruction51). x .«opcode_num») split
+
+  pub split-a : w .a ≡ fieldA (w .raw)
+  unfolding decoded
+  split-a = ap (λ (x : RawInstruction51). x .a) split
+
+  pub split-b : w .b ≡ operand B (w .raw)
+  unfolding decoded
+  split-b = ap (λ (x : RawInstruction51). x .b) split
+
+  pub split-c : w .c ≡ operand C (w .raw)
+  unfolding decoded
+  split-c = ap (λ (x : RawInstruction51). x .c) split
+
+  pub split-bx : w .bx ≡ fieldBx (w .raw)
+  unfolding decoded
+  split-bx = ap (λ (x : RawInstruction51). x .bx) split
+
+  pub bx-below : w .bx < 262144
+  bx-below = omega (arith, split-bx, field-below 14 18 (w .raw))
+
+-- and whose opcode is known
+
 module _ (op : Opcode51) (w : RawInstruction51) (d : Decodes op w) where
   pub opcode-known : opcodeOf (opcode (w .raw)) ≡ Known op
   unfolding decoded
@@ -47,25 +74,6 @@ module _ (op : Opcode51) (w : RawInstruction51) (d : Decodes op w) where
   unfolding is
   listed ops = ap (λ (n : ℕ). elem n ops) (sym number)
 
-  pub value-a : w .a ≡ fieldA (w .raw)
-  unfolding decoded
-  value-a = ap (λ (x : RawInstruction51). x .a) (d .split)
-
-  pub value-b : w .b ≡ operand B (w .raw)
-  unfolding decoded
-  value-b = ap (λ (x : RawInstruction51). x .b) (d .split)
-
-  pub value-c : w .c ≡ operand C (w .raw)
-  unfolding decoded
-  value-c = ap (λ (x : RawInstruction51). x .c) (d .split)
-
-  pub value-bx : w .bx ≡ fieldBx (w .raw)
-  unfolding decoded
-  value-bx = ap (λ (x : RawInstruction51). x .bx) (d .split)
-
-  pub bx-below : w .bx < 262144
-  bx-below = omega (arith, value-bx, field-below 14 18 (w .raw))
-
   -- field B or C
   pub field-of : (f : Field) (fixed rk : Bool) (value : ℕ) → fixed ≡ isFixedRegister f op → rk ≡ isRk f op → value ≡ operand f (w .raw)
       → _≡_ {A = OperandField} (record { fixed = fixed; rk = rk; value = value }) (operandField f (w .raw))
@@ -80,7 +88,7 @@ module _ (op : Opcode51) (w : RawInstruction51) (d : Decodes op w) where
 
   pub skip-by-c : false ≡ elem (numberOf op) skips → true ≡ elem (numberOf op) (LOADBOOL ∷ []) → ltb 0 (w .c) ≡ isSkip (w .raw)
   unfolding isSkip isLoadboolSkip
-  skip-by-c e f = rw (← listed skips, ← e, ← listed (LOADBOOL ∷ []), ← f, value-c)
+  skip-by-c e f = rw (← listed skips, ← e, ← listed (LOADBOOL ∷ []), ← f, split-c w (d .split))
 
   pub skip-never : false ≡ elem (numberOf op) skips → false ≡ elem (numberOf op) (LOADBOOL ∷ []) → false ≡ isSkip (w .raw)
   unfolding isSkip isLoadboolSkip
@@ -120,7 +128,7 @@ module _ (op : Opcode51) (w : RawInstruction51) (d : Decodes op w) where
   unfolding spanEnds is
   spans-of n e =
       let q : n ≡ opcode (w .raw) = sym e ∙ tag-number op ∙ sym (number op w d) in
-      rw (q, value-a op w d, value-b op w d, value-c op w d)
+      rw (q, split-a w (d .split), split-b w (d .split), split-c w (d .split))
 
   module _ (first second : Span) where
     pub span-self : tagOf the-type op ≡ SELF → ends first ++ ends second ≡ ends (To (w .a + 1)) → ends first ++ ends second ≡ spanEnds (w .raw)

@@ -27,7 +27,7 @@ use Rattle.validator.specs.declared.operands.Span.{Span}
 use Rattle.validator.specs.declared.operands.Span.the-variants.{None, To}
 use Rattle.validator.specs.declared.prototype.Prototype.{Prototype}
 use Rattle.validator.proofs.EmitLaws.{emits-none, emits-word, emits-bits, emits-hit, emits-then}
-use Rattle.validator.proofs.OperandLaws.{listed, not-unknown, value-a}
+use Rattle.validator.proofs.OperandLaws.{listed, not-unknown, split-a}
 
 -- ---- roles
 
@@ -83,7 +83,7 @@ below-append pc code limit xs ys =
 -- register A
 pub register-a : (op : Opcode51) (w : RawInstruction51) → Decodes op w → (b : Bool) → b ≡ aIsRegister op → only b (w .a) ≡ registerA (w .raw)
 unfolding registerA aIsRegister
-register-a op w d b e = ap₂ only (e ∙ ap not (listed op w d withoutA)) (value-a op w d) ∙ rw (not-unknown op w d)
+register-a op w d b e = ap₂ only (e ∙ ap not (listed op w d withoutA)) (split-a w (d .split)) ∙ rw (not-unknown op w d)
 
 -- two spans are those of the word
 pub spans-checked : (row pc limit w : ℕ) (first second : Span) (s t u : State) → ends first ++ ends second ≡ spanEnds w

@@ -5,7 +5,8 @@ use borrow.Author.Needs.{needs}
 use Rattle.opcodes.proofs.TestLaws.{true≢false}
 use Rattle.validator.specs.Clean.{shapes}
 use Rattle.validator.proofs.FaultLaws.{split-again}
-use Rattle.validator.proofs.CleanLaws.{passed, few-ways, bx-below, companion-clean, word-clean}
+use Rattle.validator.proofs.OperandLaws.{bx-below}
+use Rattle.validator.proofs.CleanLaws.{passed, few-ways, companion-clean, word-clean}
 use Rattle.validator.proofs.clean.is_clean.Statement.{statement}
 use Rattle.validator.proofs.clean.is_clean.Tie as tie
 
@@ -15,7 +16,7 @@ operands-below-requires c κs = (c .before .before .before .before .before .befo
 
 goes-to-word-requires : tie.Need-goes-to-word-requires
 unfolding shapes
-goes-to-word-requires c κs = (few-ways (c .before .before .before .before .before .decode .result .«opcode_num») (omega (arith, c .before .before .before .if2 .left)), omega (arith, c .before .before .before .before .before .before .before .before .before .before .before .before .pre), bx-below _ _ (c .before .before .before .before .before .decode .ensures))
+goes-to-word-requires c κs = (few-ways (c .before .before .before .before .before .decode .result .«opcode_num») (omega (arith, c .before .before .before .if2 .left)), omega (arith, c .before .before .before .before .before .before .before .before .before .before .before .before .pre), bx-below _ (split-again _ _ (c .before .before .before .before .before .decode .ensures)))
 
 returns-4 : tie.Need-returns-4
 unfolding shapes

@@ -4,7 +4,7 @@ use borrow.Author.Needs.{needs}
 use Rattle.opcodes.specs.Words.{CLOSURE}
 use Rattle.verdict.specs.Operands.{childBx}
 use Rattle.validator.proofs.EmitLaws.{emits-end, emits-join}
-use Rattle.validator.proofs.OperandLaws.{value-bx}
+use Rattle.validator.proofs.OperandLaws.{split-bx}
 use Rattle.validator.proofs.WordLaws.{checked-as, named-by, emits-operands}
 use Rattle.validator.proofs.word.validate_operands.Statement.{statement}
 use Rattle.validator.proofs.word.validate_operands.Tie as tie
@@ -19,7 +19,7 @@ returns c p l =
     (emits-join _ _ _ _ _ _ (c .before .before .before .before .before .before .before .before .before .before .before .validate-registers .ensures)
     (emits-join _ _ _ _ _ _ (c .before .before .before .before .before .before .before .validate-fields .ensures)
     (emits-end _ _ _ _
-    (checked-as _ _ _ _ _ _ _ _ (c .before .before .check .ensures) (named-by (a .op) (a .w) d (CLOSURE ∷ []) _ _ _ (c .before .before .before .is-closure .ensures) (value-bx (a .op) (a .w) d)))))))
+    (checked-as _ _ _ _ _ _ _ _ (c .before .before .check .ensures) (named-by (a .op) (a .w) d (CLOSURE ∷ []) _ _ _ (c .before .before .before .is-closure .ensures) (split-bx (a .w) (d .split))))))))
 
 pub validate-operands-spec : {M : Type 1} → statement M
 validate-operands-spec =

@@ -206,6 +206,11 @@ once s n = go (s % 2) (omega arith)
     go (suc zero) h = omega arith
     go (suc (suc b)) h = absurd (omega arith)
 
+-- and one that did
+pub failed : (b : Bool) → not b ≡ true → b ≡ false
+failed true e = sym e
+failed false e = refl
+
 -- the places are in the list, and a word goes one of 16 ways
 bounded : (f : ℕ → ℕ) (k n : ℕ) → T (every (λ m. ltb (f m) k) (upFrom 0 38)) → n < 38 → f n < k
 bounded f k n t h = ltb→lt (f n) k (up-to (λ m. ltb (f m) k) 0 38 n t (omega arith) h)

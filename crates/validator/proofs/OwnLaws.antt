@@ -43,13 +43,6 @@ pub executes : (p : Proto) (q : Prototype) (code records : List ℕ) → Describ
 executes p q code records d pc h b e f =
     executable p pc (omega (arith, h, words-of p q code records d)) (subst T (sym (looked-up p q code records d pc b true e f)) tt)
 
--- a companion adds nothing
-pub companion-adds : (row : ℕ) (s : State) (p : Proto) (q : Prototype) (code records : List ℕ) → Describes p q code records → (pc : ℕ) (b : Bool) → b ≡ not (isExecutable (roleIn records pc)) → b ≡ true
-    → s ≡ emitAll row (diagnosticsAt p pc) s
-unfolding diagnosticsAt executableAt
-companion-adds row s p q code records d pc b e f =
-    rw (looked-up p q code records d pc b false e f, and-false) (emits-none row s)
-
 -- an executable word adds its own
 pub word-adds : (row pc : ℕ) (p : Proto) (s t : State) → Executable p pc → t ≡ emitAll row (wordDiagnostics p pc (wordAt p pc)) s → t ≡ emitAll row (diagnosticsAt p pc) s
 unfolding diagnosticsAt
@@ -115,6 +108,11 @@ module _ (q : Prototype) (code records : List ℕ) (n : ℕ) (s₀ : State) wher
         let there : pc + (to - pc) ≡ to = omega arith in
         subst⁻¹ (λ (w : WalkState). WordPass q code records n s₀ (w, s .1) to) (tested-going (s .0) t e l)
         (subst (WordPass q code records n s₀ s) there (pass-over l (to - pc) (omega arith) (λ p d i x y. none p d i x (omega arith))))
+
+    -- and the word there is judged
+    pub word-step : (p : Proto) (to : ℕ) (u : State) → t .limit ≡ false → Executable p to → u ≡ emitAll (q .row) (wordDiagnostics p to (wordAt p to)) (t, s .1) → u ≡ advance (q .row) (t, s .1) (wordStep p to)
+    word-step p to u l x f =
+        step-adds (q .row) (diagnosticsAt p to) (t, s .1) t (e ∙ ap testedOf (sym (tested-going (s .0) t e l))) u l (word-adds (q .row) to p (t, s .1) u x f)
 
 -- ---- all of them
 

@@ -1,10 +1,11 @@
-// Words without a diagnostic are found fast: what an opcode names is looked up in a table, so that no branch depends on it, and the walk's state
-// is not touched. A word that is not found clean is judged by `word`, whether it has diagnostics or not.
+// Words without a diagnostic are found fast: what an opcode names is looked up in a table, so that only whether it is known and where the word
+// goes make branches that depend on it, and the walk's state is not touched. A word that is not found clean is judged by `word`, whether it has
+// diagnostics or not.
 use crate::prototype::Prototype;
 use crate::word::is_companion;
 use opcodes::RawInstruction51;
 use opcodes::bytes::read_u32;
-ghost use mathlib.Core.Bool.{true};
+ghost use mathlib.Core.Bool.{false, true};
 ghost use mathlib.Core.Path.{_≡_};
 ghost use Prim.Native.Nat.{_+_, _*_, _/_, _%_, _<_, _≤_, ℕ};
 ghost use mathlib.Core.List.{[]};
@@ -13,6 +14,7 @@ ghost use lib.IntN.{_-ℤ_, pos};
 ghost use lib.ListN.{getD, length};
 ghost use Rattle.opcodes.specs.Words.{decoded};
 ghost use Rattle.chunk.specs.Refusals.{maxWordBytes};
+ghost use Rattle.chunk.specs.Roles.{Executable};
 ghost use Rattle.chunk.specs.Table.{Proto};
 ghost use Rattle.verdict.specs.Diagnostics.{diagnosticsAt};
 ghost use Rattle.verdict.specs.Rules.{Lands};
@@ -27,8 +29,12 @@ const LAST_OPCODE: u8 = 37;
 // Above every field of a word.
 const NO_LIMIT: u32 = 262144;
 
-// What each opcode names and where it goes, four bits each from the lowest on: the limit of A, of Bx, of B, of C, as places in the list of
-// limits; the span that B ends and the one that C ends; where the word goes.
+// What each opcode names and where it goes, four bits each from the lowest on.
+// The limits of A, Bx, B and C, as places in the list of limits: 0 names nothing, 2 a register, 4 an RK operand, 6 an upvalue, 8 a flag, 9 a child.
+// A B or C of 256 or more has the next place: 5 is the number of constants, which a Bx that names a constant has itself, 3 and 7 are 0.
+// The spans that B and C end: 2 * n + 1 ends at register A + n - 2 + the field, 2 * n at A + n - 2; 0 is none.
+// Where it goes: 0 to the next word, 1 to its target, 2 past companions that it may own, 4 over the next word; half of 2 and 4 is how far.
+// So of CALL, 0x13_0002, A is a register, B ends a span at A + 1 - 2 + B, and C one at A + 0 - 2 + C.
 const SHAPES: [u32; 38] = [
     0x202, // MOVE
     0x52, // LOADK
@@ -70,11 +76,12 @@ const SHAPES: [u32; 38] = [
     0x1_0002, // VARARG
 ];
 
-// The first pc from `from` on whose word is not found clean, or the number of words.
+// The first pc from `from` on whose word is not found clean, or the number of words. It is that of an executable word.
 pub fn next_suspect(proto: Prototype, code: &[u8], roles: &[u8], from: usize) -> usize
     requires { ⌜ (from ≤ length (now code) / 4) × (length (now code) ≤ maxWordBytes) × (length (now roles) ≤ 2 * maxWordBytes) ⌝ }
     ensures { λ r. ⌜ (from ≤ r) × (r ≤ length (now (code .entry)) / 4) ⌝ }
     ensures { λ r. ⌜ ((p : Proto) → Describes p proto (now (code .entry)) (now (roles .entry)) → (pc : ℕ) → from ≤ pc → pc < r → diagnosticsAt p pc ≡ []) ⌝ }
+    ensures { λ r. ⌜ (r < length (now (code .entry)) / 4 → (p : Proto) → Describes p proto (now (code .entry)) (now (roles .entry)) → Executable p r) ⌝ }
 {
     let limits = [
         NO_LIMIT,
@@ -104,6 +111,7 @@ fn is_clean(proto: Prototype, limits: &[u32], code: &[u8], roles: &[u8], pc: usi
     requires { ⌜ (pc < length (now code) / 4) × (length (now code) ≤ maxWordBytes) × (length (now roles) ≤ 2 * maxWordBytes) ⌝ }
     requires { ⌜ now limits ≡ limitsOf proto ⌝ }
     ensures { λ r. ⌜ ((p : Proto) → Describes p proto (now (code .entry)) (now (roles .entry)) → r ≡ true → diagnosticsAt p pc ≡ []) ⌝ }
+    ensures { λ r. ⌜ ((p : Proto) → Describes p proto (now (code .entry)) (now (roles .entry)) → r ≡ false → Executable p pc) ⌝ }
 {
     if is_companion(roles, pc) {
         return true;
@@ -158,7 +166,7 @@ fn field_below(limits: &[u32], place: u32, value: u16) -> bool
     is_below(limits, place + (value / 256) as u32, (value % 256) as u32)
 }
 
-// Whether a span ends below the stack. The lowest bit of `span` says whether it has `count` registers more.
+// Whether register A + span / 2 - 2, and `count` more where span is odd, is below the stack.
 fn span_below(stack: u32, span: u32, a: u8, count: u16) -> bool
     requires { ⌜ span < 16 ⌝ }
     ensures { λ r. ⌜ r ≡ leb (a + span / 2 + span % 2 * count) (stack + 1) ⌝ }

@@ -9,7 +9,6 @@ use crate::prototype::Prototype;
 use crate::prototype::field;
 use crate::prototype::prototype_at;
 use crate::walk::WalkState;
-use crate::word::is_companion;
 use crate::word::validate_word;
 use roles::role::ROLE_BYTES;
 use roles::table::DEPTH;
@@ -180,7 +179,7 @@ fn validate_stack(walk: WalkState, out: &mut [u8], proto: Prototype) -> WalkStat
     )
 }
 
-// The words, each after a test, which passes again at words that have no diagnostics: these are passed over.
+// The words, each after a test. The test before a word that has no diagnostics gives what the last one gave, so these are passed over after one.
 fn validate_words(
     walk: WalkState,
     out: &mut [u8],
@@ -203,30 +202,8 @@ fn validate_words(
         if n <= pc {
             return walk;
         }
-        walk = validate_at(walk, out, proto, code, roles, pc);
+        walk = validate_word(walk, out, proto, code, roles, pc);
         pc += 1;
     }
     walk
-}
-
-// The word at pc, after a test. A companion has no diagnostics.
-fn validate_at(
-    walk: WalkState,
-    out: &mut [u8],
-    proto: Prototype,
-    code: &[u8],
-    roles: &[u8],
-    pc: usize,
-) -> WalkState
-    requires { ⌜ (pc < length (now code) / 4) × (length (now code) ≤ maxWordBytes) × (length (now roles) ≤ 2 * maxWordBytes) ⌝ }
-    ensures { λ r. ⌜ ((p : Proto) → Describes p proto (now (code .entry)) (now (roles .entry)) → (r, now (out .exit)) ≡ advance (proto .row) (walk, now (out .entry)) (testedStep (diagnosticsAt p pc))) ⌝ }
-{
-    let walk = walk.tested();
-    if walk.limit {
-        return walk;
-    }
-    if is_companion(roles, pc) {
-        return walk;
-    }
-    validate_word(walk, out, proto, code, roles, pc)
 }

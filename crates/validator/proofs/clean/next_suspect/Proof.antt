@@ -4,7 +4,7 @@ use native.Mathlib.Omega.{arith}
 use mathlib.Core.Path.{refl}
 use borrow.Author.Needs.{needs}
 use Rattle.validator.specs.Clean.{limitsOf}
-use Rattle.validator.proofs.CleanLaws.{CleanPass, passed, pass-begins, pass-next}
+use Rattle.validator.proofs.CleanLaws.{CleanPass, passed, failed, pass-begins, pass-next}
 use Rattle.validator.proofs.clean.next_suspect.Statement.{statement}
 use Rattle.validator.proofs.clean.next_suspect.Tie as tie
 
@@ -27,8 +27,11 @@ next-suspect-spec =
     (λ c. pass-begins _ _ _ _ (c .before .before .pre .0))
     (λ c. search needs)
     is-clean-requires
-    (λ c. ((c .before .before .before .before .loop .inv .later, c .before .before .before .before .loop .inv .within), c .before .before .before .before .loop .inv .none))
+    (λ c. (
+      (c .before .before .before .before .loop .inv .later, c .before .before .before .before .loop .inv .within),
+      (c .before .before .before .before .loop .inv .none, λ h p d. c .before .is-clean .ensures .1 p d (failed _ (c .if1 .taken))),
+    ))
     (λ c. omega (arith, c .before .before .before .loop-test .taken))
     (λ c. omega (arith, c .before .before .before .loop-test .taken))
-    (λ c. pass-next _ _ _ _ _ (c .before .before .before .before .loop .inv) (c .before .before .before .loop-test .taken) (λ p d. c .before .is-clean .ensures p d (passed _ _ refl (c .if1 .left))))
-    (λ c. ((c .before .loop .inv .later, c .before .loop .inv .within), c .before .loop .inv .none)))
+    (λ c. pass-next _ _ _ _ _ (c .before .before .before .before .loop .inv) (c .before .before .before .loop-test .taken) (λ p d. c .before .is-clean .ensures .0 p d (passed _ _ refl (c .if1 .left))))
+    (λ c. ((c .before .loop .inv .later, c .before .loop .inv .within), (c .before .loop .inv .none, λ h. absurd (omega (arith, c .loop-test .left))))))

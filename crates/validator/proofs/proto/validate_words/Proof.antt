@@ -3,7 +3,7 @@
 use Prim.Native.Nat.{_-_}
 use native.Mathlib.Omega.{arith}
 use borrow.Author.Needs.{needs}
-use Rattle.validator.proofs.OwnLaws.{WordPass, words-begin, words-end, words-next, test-stops, words-over}
+use Rattle.validator.proofs.OwnLaws.{WordPass, words-begin, words-end, words-next, test-stops, words-over, word-step}
 use Rattle.validator.proofs.proto.validate_words.Statement.{statement}
 use Rattle.validator.proofs.proto.validate_words.Tie as tie
 
@@ -27,14 +27,18 @@ validate-words-spec =
     (λ c. c .before .before .before .before .before .loop .inv .long)
     (λ c.
     words-end _ _ _ _ _ _ _
-    (words-over _ _ _ _ _ _ _ (c .before .before .before .before .before .loop .inv) _ (c .before .before .before .tested .ensures) (c .before .before .if1 .left) _ (c .before .next-suspect .ensures .0 .0) (c .before .next-suspect .ensures .0 .1) (c .before .next-suspect .ensures .1))
+    (words-over _ _ _ _ _ _ _ (c .before .before .before .before .before .loop .inv) _ (c .before .before .before .tested .ensures) (c .before .before .if1 .left) _ (c .before .next-suspect .ensures .0 .0) (c .before .next-suspect .ensures .0 .1) (c .before .next-suspect .ensures .1 .0))
     (c .if2 .taken))
     (λ c κs. (omega (arith, c .before .if2 .left), c .before .before .before .before .before .before .before .before .before .before .pre .0, c .before .before .before .before .before .before .before .before .before .before .pre .1))
     (λ c. omega (arith, c .before .before .before .before .if2 .left))
     (λ c. omega (arith, c .before .before .before .before .if2 .left, c .before .before .before .before .before .next-suspect .ensures .0 .0))
     (λ c.
     words-next _ _ _ _ _ _ _
-    (words-over _ _ _ _ _ _ _ (c .before .before .before .before .before .before .before .before .before .loop .inv) _ (c .before .before .before .before .before .before .before .tested .ensures) (c .before .before .before .before .before .before .if1 .left) _ (c .before .before .before .before .before .next-suspect .ensures .0 .0) (c .before .before .before .before .before .next-suspect .ensures .0 .1) (c .before .before .before .before .before .next-suspect .ensures .1))
-    (omega (arith, c .before .before .before .before .if2 .left)) _ (c .before .before .validate-at .ensures) (c .before .before .validate-at .kept .1 .0))
+    (words-over _ _ _ _ _ _ _ (c .before .before .before .before .before .before .before .before .before .loop .inv) _ (c .before .before .before .before .before .before .before .tested .ensures) (c .before .before .before .before .before .before .if1 .left) _ (c .before .before .before .before .before .next-suspect .ensures .0 .0) (c .before .before .before .before .before .next-suspect .ensures .0 .1) (c .before .before .before .before .before .next-suspect .ensures .1 .0))
+    (omega (arith, c .before .before .before .before .if2 .left)) _
+    (λ p d.
+    word-step _ _ _ _ _ _ _ (c .before .before .before .before .before .before .before .before .before .loop .inv) _ (c .before .before .before .before .before .before .before .tested .ensures) p _ _ (c .before .before .before .before .before .before .if1 .left)
+    (c .before .before .before .before .before .next-suspect .ensures .1 .1 (omega (arith, c .before .before .before .before .if2 .left)) p d) (c .before .before .validate-word .ensures p d (c .before .before .before .before .before .next-suspect .ensures .1 .1 (omega (arith, c .before .before .before .before .if2 .left)) p d)))
+    (c .before .before .validate-word .kept .1 .0))
     (λ c. c .before .loop .inv .long)
     (λ c. words-end _ _ _ _ _ _ _ (c .before .loop .inv) (c .loop-test .left)))

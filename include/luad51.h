@@ -8,8 +8,8 @@
  *                      upvalues   at most LUAD51_MAX_UPVALUES
  *                      stack      at most LUAD51_MAX_STACK
  *   words            the words of all prototypes end to end, in row order, LUAD51_WORD_BYTES each: one u32
- * Child k of a row, from 0, is the k-th later row that is one deeper, before any row of its own depth or less. A word's
- * pc is its index in its prototype, from 0.
+ * The children of a row are the rows one deeper that follow it, up to the next row that is not deeper than it; they are
+ * numbered from 0. A word's pc is its index in its prototype, from 0.
  *
  * Slices and buffers may have any content and any length, and begin at any address. What the caller owes:
  *   lengths   all bytes of a slice can be read, and all bytes of a buffer also written
@@ -20,12 +20,13 @@
  *   others    during a call nothing else writes its slices and buffers, or reads its buffers
  * A call writes to its buffers and to nothing else. Nothing is allocated, nothing is kept after a call, there is no
  * global state, and no function of the C library is called but memset: any number of threads and signal handlers may
- * call at the same time, each with buffers of its own; they may share an image, which is only read.
+ * call at the same time, each with buffers and stack of its own; they may share an image, which is only read.
  * The archive is for x86-64 with the System V calling convention, as on Linux.
  *
- * A call takes at most LUAD51_STACK_BYTES of stack. Only the search for a child of a CLOSURE takes much: it goes one
- * call deeper for each row that it passes, 48 bytes each as compiled for x86-64, and has an index of the children found,
- * 131072 bytes where there are more than 256 rows. The check also goes one call deeper for each level of nesting.
+ * A call takes at most LUAD51_STACK_BYTES of stack, and a caller that does not know its image must have as much. Every
+ * call, also one that is refused, takes about 137,000 of them as compiled for x86-64, most of it an index of children
+ * in its frame. The rest is for the search for a child of a CLOSURE, which goes one call deeper for each row that it
+ * passes, 48 bytes each. The check also goes one call deeper for each level of nesting.
  * The time is linear in words and records, and in rows times the depth of nesting, in whatever order CLOSUREs name
  * children.
  *

@@ -70,7 +70,8 @@ static void count_image(const struct image *image, const uint8_t *roles, struct 
 static void print_fault(const struct image *image, uint64_t result, const uint8_t *diagnostics)
 {
     printf("%.*s: refusal %u, figure %u, verdict %s", image->label_len, image->label, (unsigned)luad51_refusal(result),
-           (unsigned)luad51_figure(result), VERDICTS[luad51_verdict(result)]);
+           (unsigned)luad51_figure(result),
+           luad51_refusal(result) == LUAD51_ACCEPTED ? VERDICTS[luad51_verdict(result)] : "none");
     if (luad51_refusal(result) == LUAD51_ACCEPTED && luad51_figure(result) > 0)
         printf("; first: row %u, pc %d, code %u, value %d", (unsigned)get(diagnostics), (int)get(diagnostics + 4),
                (unsigned)get(diagnostics + 8), (int)get(diagnostics + 12));

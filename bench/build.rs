@@ -1,5 +1,5 @@
-//! Links the archives that `rt staticlib` wrote. Without that of luad51 all is built but `bench roles`, `bench bindings`
-//! and `bench check`.
+//! Links the archives that `rt staticlib` wrote. Without that of luad51 all is built but `bench calls` and the comparisons
+//! of calls.
 use std::path::Path;
 
 fn main() {

@@ -1,6 +1,7 @@
 //! `bench` times reading and splitting words; `bench all [STEP]` compares the split of every word, or of every STEP-th,
-//! with luad's; `bench roles`, `bench bindings` and `bench check` time a call of luad51, and with `compare` they only
-//! compare it with luad. The exit status is 1 where a call's answer is not luad's.
+//! with luad's. `bench calls` times the calls of luad51 and luad on the same images, and how the times grow with the
+//! words; `bench calls roles`, `bindings` or `check` only one call. `bench roles compare`, and so for the other calls,
+//! only compares. The exit status is 1 where a call's answer is not luad's.
 #[cfg(luad51)]
 mod luad51;
 mod timing;
@@ -14,22 +15,20 @@ fn run(arguments: &[&str]) -> Result<(), String> {
         ["all"] => words::all(1),
         ["all", step] => words::all(step.parse().unwrap()),
         #[cfg(luad51)]
-        ["roles"] => luad51::roles::time()?,
+        ["calls"] => luad51::times::run(None)?,
         #[cfg(luad51)]
-        ["roles", "compare"] => luad51::roles::compare()?,
+        ["calls", call @ ("roles" | "bindings" | "check")] => luad51::times::run(Some(call))?,
         #[cfg(luad51)]
-        ["bindings"] => luad51::bindings::time()?,
+        ["roles", "compare"] => luad51::compare::roles()?,
         #[cfg(luad51)]
-        ["bindings", "compare"] => luad51::bindings::compare()?,
+        ["bindings", "compare"] => luad51::compare::bindings()?,
         #[cfg(luad51)]
-        ["check"] => luad51::check::time()?,
-        #[cfg(luad51)]
-        ["check", "compare"] => luad51::check::compare()?,
+        ["check", "compare"] => luad51::compare::check()?,
         #[cfg(not(luad51))]
-        ["roles" | "bindings" | "check", ..] => {
+        ["calls" | "roles" | "bindings" | "check", ..] => {
             panic!("built without the archive of luad51: rt staticlib luad51, then build again")
         }
-        _ => panic!("bench, bench all [STEP], or bench roles, bindings or check [compare]"),
+        _ => panic!("bench, bench all [STEP], bench calls [CALL], or bench CALL compare; CALL: roles, bindings, check"),
     }
     Ok(())
 }

@@ -42,7 +42,7 @@ fn words(count: usize, known: bool) -> Vec<u8> {
         state = state.wrapping_mul(6364136223846793005).wrapping_add(1442695040888963407);
         let mut word = (state >> 32) as u32;
         if known {
-            word = word & !63 | (word & 63) % 38;
+            word = (word & !63) | ((word & 63) % 38);
         }
         bytes.extend(word.to_le_bytes());
     }
@@ -59,8 +59,7 @@ pub fn time() {
     for (name, known) in [("any words", false), ("known opcodes", true)] {
         let mut words = words(count, known);
         assert_eq!(proved(&words), published(&words));
-        let ([ours], theirs) =
-            turns_about(201, &mut words, [|words| run(proved, words)], |words| run(published, words));
+        let (ours, theirs) = turns_about(201, &mut words, |words| run(proved, words), |words| run(published, words));
         println!(
             "{count} {name}: proved {:.3} ms, luad {:.3} ms, ratio {:.2}",
             ours * 1e3,

@@ -2,7 +2,8 @@
 use super::{calls, model};
 use answers::image::{rows, Image, Proto, BINDING_LEN, DIAGNOSTIC_LEN, ROLE_LEN, ROW_LEN};
 use answers::judge::{added, bindings, decode, diagnostics, preorder, roles};
-use luad::model::Chunk;
+use luad::diagnostic::Diagnostic;
+use luad::model::{Chunk, Prototype};
 use luad::validator::validate_chunk_lua51;
 use std::fmt::Debug;
 use std::hint::black_box;
@@ -10,7 +11,8 @@ use std::hint::black_box;
 /// What the buffers hold before a call whose answer is compared.
 const UNWRITTEN: u8 = 0x55;
 
-/// Diagnostics that a check has at most.
+/// Diagnostics that end a check, and those that it has at most.
+const MAX_DIAGNOSTICS: usize = 10_000;
 const MOST_DIAGNOSTICS: usize = 10_255;
 
 pub struct Case {
@@ -24,6 +26,17 @@ pub struct Case {
     /// The buffer for the most diagnostics that there can be, and how many luad's loading found.
     diagnostics: Vec<u8>,
     found: usize,
+    /// Rows that luad's check comes to.
+    reached: usize,
+}
+
+/// The rows that luad's check comes to: all, or those up to the last diagnostic where the diagnostic limit ends it.
+fn reached(found: &[Diagnostic], main: &Prototype) -> usize {
+    let protos = preorder(main);
+    match found.len() < MAX_DIAGNOSTICS {
+        true => protos.len(),
+        false => diagnostics(&found[found.len() - 1..], &protos)[0][0] as usize + 1,
+    }
 }
 
 /// The records of a buffer.
@@ -40,9 +53,10 @@ impl Case {
         let bindings = vec![0; BINDING_LEN * upvalues];
         let diagnostics = vec![0; DIAGNOSTIC_LEN * MOST_DIAGNOSTICS];
         let (mut chunk, incoming) = decode(&image);
-        let found = added(&chunk.diagnostics, incoming).len();
+        let found = added(&chunk.diagnostics, incoming);
+        let (found, reached) = (found.len(), reached(found, &chunk.main_proto));
         chunk.diagnostics.truncate(incoming);
-        Self { name, image, chunk, roles, bindings, diagnostics, found }
+        Self { name, image, chunk, roles, bindings, diagnostics, found, reached }
     }
 
     pub fn rows(&self) -> usize {
@@ -59,6 +73,11 @@ impl Case {
 
     pub fn diagnostics(&self) -> usize {
         self.found
+    }
+
+    /// Rows that luad's check comes to.
+    pub fn reached(&self) -> usize {
+        self.reached
     }
 
     /// The roles call by the proved code.
@@ -89,7 +108,7 @@ impl Case {
 
     /// What the roles call does, by luad.
     pub fn luad_roles(&mut self) {
-        model::discover(black_box(&self.chunk.main_proto));
+        model::discover_after(black_box(&self.chunk.main_proto), &mut 0);
     }
 
     /// What the bindings call does, by luad with its loop transcribed.
@@ -100,6 +119,12 @@ impl Case {
     /// What the check call does, by luad, which finds the roles of the prototypes that it comes to.
     pub fn luad_check(&mut self) {
         black_box(validate_chunk_lua51(black_box(&self.chunk)));
+    }
+
+    /// The same and the roles of the other prototypes, which the check call finds too.
+    pub fn luad_check_and_roles(&mut self) {
+        self.luad_check();
+        model::discover_after(black_box(&self.chunk.main_proto), &mut self.reached.clone());
     }
 
     /// Says where a call did not accept the image with so many records and this verdict.

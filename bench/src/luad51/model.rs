@@ -4,10 +4,14 @@ use luad::opcodes::{Opcode51, RawInstruction51};
 use luad::roles::{discover_roles_lua51, Lua51PhysicalRole, Lua51RoleMap};
 use std::hint::black_box;
 
-/// luad's role map of a prototype and of each one below it; each map is given back before the next is made.
-pub fn discover(proto: &Prototype) {
-    black_box(discover_roles_lua51(proto));
-    proto.protos.iter().for_each(discover);
+/// luad's role maps of a prototype and of those below it, in preorder, without so many at the front; each map is given
+/// back before the next is made.
+pub fn discover_after(proto: &Prototype, front: &mut usize) {
+    match *front {
+        0 => _ = black_box(discover_roles_lua51(proto)),
+        _ => *front -= 1,
+    }
+    proto.protos.iter().for_each(|child| discover_after(child, front));
 }
 
 /// luad's bindings in a prototype and below it, made again. As in luad's `load_proto_51` the children come first, then

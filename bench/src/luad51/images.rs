@@ -24,9 +24,10 @@ pub type Named<F> = (&'static str, F);
 
 /// The images that every call is timed on. Of those called real-like and any bits the words are so often wrong that the
 /// diagnostic limit ends the check early.
-pub const TIMED: [Named<fn() -> Image>; 13] = [
+pub const TIMED: [Named<fn() -> Image>; 14] = [
     ("valid", || valid(WORDS)),
     ("many rows", || many_rows(WORDS)),
+    ("many rows, 8 words each", || many_rows(131_072)),
     ("few words, by chance", || few_words(Tree::Chance)),
     ("few words, a chain", || few_words(Tree::Chain)),
     ("wrong here and there", || wrong_here_and_there(WORDS)),

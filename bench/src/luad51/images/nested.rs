@@ -129,17 +129,18 @@ fn valid_code(rng: &mut Rng, proto: &Source, plan: &Plan) -> Vec<u32> {
 pub enum Tree {
     /// Depths by chance: a row may be a child of the one before, or stand anywhere above that.
     Chance,
-    /// Each row the only child of the one before, down to the depth that there can be at most; all others are siblings
-    /// there. Every row of the chain has nearly all rows below it.
+    /// Each row the first child of the one before, down to the depth that there can be at most; then siblings there; at
+    /// the end a second child of each row of the chain. So nearly all rows stand between these two children, at each
+    /// depth.
     Chain,
 }
 
 impl Tree {
-    /// The depth of a row that is not the main one, after a row of the given depth.
-    fn next_depth(self, rng: &mut Rng, depth: u32) -> u32 {
+    /// The depth of a row that is not the main one, after a row of the given depth, where so many rows are left.
+    fn next_depth(self, rng: &mut Rng, depth: u32, left: usize) -> u32 {
         match self {
             Tree::Chance => rng.range(1, (depth + 1).min(DEEPEST_BY_CHANCE)),
-            Tree::Chain => (depth + 1).min(DEEPEST),
+            Tree::Chain => (depth + 1).min(DEEPEST).min(left as u32),
         }
     }
 
@@ -148,7 +149,7 @@ impl Tree {
         let source = |depth, upvalues| Source { depth, constants: CONSTANTS, upvalues, stack: STACK, code: Vec::new() };
         let mut sources = vec![source(0, 0)];
         for row in 1..rows {
-            let depth = self.next_depth(rng, sources[row - 1].depth);
+            let depth = self.next_depth(rng, sources[row - 1].depth, rows - row);
             sources.push(source(depth, rng.range(least, most)));
         }
         sources
@@ -219,7 +220,8 @@ pub fn valid(words: usize) -> Image {
     Shape::new(words, valid_code).image()
 }
 
-/// The same in as many rows as there can be, in a chain.
+/// The same in as many rows as there can be, in a chain: the worst of nesting for CLOSUREs that name children in rising
+/// order.
 pub fn many_rows(words: usize) -> Image {
     Shape { tree: Tree::Chain, rows: ROWS, ..Shape::new(words, valid_code) }.image()
 }

@@ -15,10 +15,6 @@ const STACK: u32 = 64;
 /// Constants of a prototype.
 const CONSTANTS: u32 = 8;
 
-/// Words at most of an image whose CLOSUREs name the children in another order than rising. With WORDS here the roles
-/// call has to take about as long for these as for the others.
-const ANY_ORDER_WORDS: usize = 16_384;
-
 /// What makes an image, by its name.
 pub type Named<F> = (&'static str, F);
 
@@ -33,9 +29,9 @@ pub const TIMED: [Named<fn() -> Image>; 14] = [
     ("wrong here and there", || wrong_here_and_there(WORDS)),
     ("real-like", || real_like(WORDS)),
     ("same last child", || same_last_child(WORDS, 0)),
-    ("first and last by turns", || first_and_last(ANY_ORDER_WORDS, ROWS - 1)),
-    ("falling children", || falling(ANY_ORDER_WORDS, ROWS - 1)),
-    ("children in random order", || in_random_order(ANY_ORDER_WORDS, ROWS - 1)),
+    ("first and last by turns", || first_and_last(WORDS, ROWS - 1)),
+    ("falling children", || falling(WORDS, ROWS - 1)),
+    ("children in random order", || in_random_order(WORDS, ROWS - 1)),
     ("same last child, 255 upvalues", || same_last_child(WORDS, 255)),
     ("many bindings", || many_bindings(WORDS)),
     ("any bits", any_bits),
@@ -49,27 +45,15 @@ pub const COMPARED: [Named<fn() -> Image>; 4] = [
     ("rising children", rising),
 ];
 
-/// An image of any number of words, with rows in proportion, whose times show how they grow.
-pub struct Growth {
-    pub name: &'static str,
-    pub make: fn(usize) -> Image,
-    /// Words that it is timed with at most.
-    pub most: usize,
-}
-
-pub const GROWTH: [Growth; 6] = [
-    Growth { name: "valid", make: valid, most: WORDS },
-    Growth { name: "wrong here and there", make: wrong_here_and_there, most: WORDS },
-    Growth { name: "same last child", make: |words| same_last_child(words, 0), most: WORDS },
-    any_order("first and last by turns", |words| first_and_last(words, children_for(words))),
-    any_order("falling children", |words| falling(words, children_for(words))),
-    any_order("children in random order", |words| in_random_order(words, children_for(words))),
+/// Images of any number of words, with rows in proportion, whose times show how they grow.
+pub const GROWTH: [Named<fn(usize) -> Image>; 6] = [
+    ("valid", valid),
+    ("wrong here and there", wrong_here_and_there),
+    ("same last child", |words| same_last_child(words, 0)),
+    ("first and last by turns", |words| first_and_last(words, children_for(words))),
+    ("falling children", |words| falling(words, children_for(words))),
+    ("children in random order", |words| in_random_order(words, children_for(words))),
 ];
-
-/// One whose CLOSUREs name the children in another order than rising.
-const fn any_order(name: &'static str, make: fn(usize) -> Image) -> Growth {
-    Growth { name, make, most: ANY_ORDER_WORDS }
-}
 
 /// A number of children in proportion to the words: with the main row, 16,384 rows for 1,048,576 words.
 fn children_for(words: usize) -> usize {

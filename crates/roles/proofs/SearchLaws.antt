@@ -23,7 +23,7 @@ use Rattle.roles.proofs.CountLaws.{none-between, between-join, between-
 
 -- ---- a child as the code has it, with the place of its first binding record
 
-abbrev search : List ℕ → ℕ → ℕ → ℕ → ℕ → Child
+abbrev pub search : List ℕ → ℕ → ℕ → ℕ → ℕ → Child
 search table at d k first = childFrom table at first (childAt d (drop at (rows table)) k)
 
 pub find-few : (table : List ℕ) (at d k first : ℕ) → length table / rowBytes - at ≤ k → child.Missing ≡ search table at d k first
@@ -101,6 +101,47 @@ one-deeper table d at k c e =
         let later = found (length table / rowBytes) table d (suc (c .row)) 0 c (omega arith) (sym (row-deeper table (c .row) d there 0 deep) ∙ e) in
         absurd (omega (arith, later .after))
 
+-- ---- the first child
+
+not-found : (table : List ℕ) (at first : ℕ) (o : Option Row) → child.Missing ≡ childFrom table at first o → o ≡ none
+unfolding childFrom
+not-found table at first none e = refl
+not-found table at first (some c) e = let z : _≡_ {A = ℕ} 0 1 = cc in absurd (omega arith)
+
+-- where there is no first child, there is none
+pub first-missing : (table : List ℕ) (at d k first : ℕ) → child.Missing ≡ search table at d 0 first → child.Missing ≡ search table at d k first
+unfolding childFrom childAt
+first-missing table at d k first e =
+    let all = children d (drop at (rows table)) in
+    sym (ap (childFrom table at first) (element-past-end all k (omega (arith, element-missing all 0 (not-found table at first (childAt d (drop at (rows table)) 0) e)))))
+
+-- the first child of the rows from `at` on stands in row r, its first binding record at index n, and the search for the others goes on after it
+pub record FirstChild (table : List ℕ) (at d first r n : ℕ) : Type 0 where
+  pub there : r < length table / rowBytes
+  pub after : at ≤ r
+  pub next : (k u m : ℕ) → u ≡ fieldAt table r 3 → m ≡ (n + u) % 2 ^ 32 → (k ≡ 0 → ⊥) → search table (r + 1) d (k - 1) m ≡ search table at d k first
+
+pub first-child : (table : List ℕ) (at d first r n : ℕ) → child.Row n r ≡ search table at d 0 first → FirstChild table at d first r n
+unfolding childFrom rowAt
+first-child table at d first r n e = go (childAt d (drop at (rows table)) 0) refl e
+  where
+    go : (o : Option Row) → childAt d (drop at (rows table)) 0 ≡ o → child.Row n r ≡ childFrom table at first o → FirstChild table at d first r n
+    go none f e = let z : _≡_ {A = ℕ} 0 1 = cc in absurd (omega arith)
+    go (some c) f e =
+        let number : c .row ≡ r = cc in
+        let place : n ≡ (first + recordsBetween table at (c .row)) % 2 ^ 32 = cc in
+        let v = found (length table / rowBytes) table d at 0 c (omega arith) f in
+        let deep : fieldAt table r 0 ≡ suc d = ap (λ (i : ℕ). fieldAt table i 0) (sym number) ∙ one-deeper table d at 0 c f in
+        let after : at ≤ r = omega (arith, v .after) in
+        record {
+          there = omega (arith, v .there);
+          after = after;
+          next = λ k u m own sum more.
+              find-next table r d k n (fieldAt table r 0) (omega (arith, v .there)) refl u m own sum deep more
+              ∙ from-later table d at r k first n after (place ∙ ap (λ (i : ℕ). (first + recordsBetween table at i) % 2 ^ 32) number)
+              ∙ ap (childFrom table at first) (ap (λ (i : ℕ). childAt d (drop i (rows table)) k) (sym number) ∙ sym (v .resumes k) ∙ ap (childAt d (drop at (rows table))) (zero-add k));
+        }
+
 -- ---- a child more in the index
 
 abbrev pub with-child : List ℕ → ℕ → ℕ → ℕ → List ℕ
@@ -165,12 +206,7 @@ module _ (table : List ℕ) (parent : ℕ) where
           }
 
   missing : (k : ℕ) → child.Missing ≡ child-of k → childOfRow table parent k ≡ none
-  unfolding childFrom
-  missing k e = go (childOfRow table parent k) e
-    where
-      go : (o : Option Row) → child.Missing ≡ childFrom table (suc parent) 0 o → o ≡ none
-      go none e = refl
-      go (some c) e = let z : _≡_ {A = ℕ} 0 1 = cc in absurd (omega arith)
+  missing k e = not-found table (suc parent) 0 (childOfRow table parent k) e
 
   -- a missing child has no upvalues
   pub no-upvalues : (k : ℕ) → childOfRow table parent k ≡ none → getD (protoIn table parent [] .children) k 0 ≡ 0

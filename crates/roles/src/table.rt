@@ -35,8 +35,9 @@ pub(crate) fn field(protos: &[u8], row: usize, k: usize) -> u32
     read_u32(&protos[ROW_BYTES * row..ROW_BYTES * row + ROW_BYTES], 4 * k)
 }
 
-// Child k of a row of this depth, among the rows from `at` on. The rows left fall with each call. The index of its first binding record is
-// counted on from `first`, that of row `at`'s, wherever the caller counts from (modulo 2^32, which an accepted table does not reach).
+// Child k of a row of this depth, among the rows from `at` on. The search goes from child to child, and the rows left fall with each call. The
+// index of the child's first binding record is counted on from `first`, that of row `at`'s, wherever the caller counts from (modulo 2^32, which
+// an accepted table does not reach).
 pub fn find_child(protos: &[u8], at: usize, depth: u32, k: u32, first: u32) -> Child
     ensures { λ r. ⌜ r ≡ childFrom (now (protos .entry)) at first (childAt depth (drop at (rows (now (protos .entry)))) k) ⌝ }
 {
@@ -47,16 +48,33 @@ pub fn find_child(protos: &[u8], at: usize, depth: u32, k: u32, first: u32) -> C
     if rows - at <= k as usize {
         return Child::Missing;
     }
-    let d = field(protos, at, DEPTH);
-    if d <= depth {
+    let Child::Row(records, row) = next_child(protos, at, depth, first) else {
         return Child::Missing;
+    };
+    if k == 0 {
+        return Child::Row(records, row);
     }
-    let next = wrapping_add_u32(first, field(protos, at, UPVALUES));
-    if d - depth == 1 {
-        if k == 0 {
-            return Child::Row(first, at);
+    let next = wrapping_add_u32(records, field(protos, row, UPVALUES));
+    find_child(protos, row + 1, depth, k - 1, next)
+}
+
+// The first child, past the rows that are deeper.
+fn next_child(protos: &[u8], at: usize, depth: u32, first: u32) -> Child
+    ensures { λ r. ⌜ r ≡ childFrom (now (protos .entry)) at first (childAt depth (drop at (rows (now (protos .entry)))) 0) ⌝ }
+{
+    let rows = protos.len() / ROW_BYTES;
+    let mut row = at;
+    let mut records = first;
+    while row < rows {
+        let d = field(protos, row, DEPTH);
+        if d <= depth {
+            return Child::Missing;
         }
-        return find_child(protos, at + 1, depth, k - 1, next);
+        if d - depth == 1 {
+            return Child::Row(records, row);
+        }
+        records = wrapping_add_u32(records, field(protos, row, UPVALUES));
+        row += 1;
     }
-    find_child(protos, at + 1, depth, k, next)
+    Child::Missing
 }

@@ -2,28 +2,53 @@
 use Prim.Native.Nat.{ℕ, suc, _+_, _/_, _≤_, _<_}
 use native.Mathlib.Numerals.{add-one}
 use native.Mathlib.Omega.{arith}
-use mathlib.Core.Path.{_≡_, refl, sym, _∙_, ap}
-use mathlib.Core.Bool.{Bool, true, false, cond}
+use mathlib.Core.Path.{_≡_, sym, _∙_, ap}
 use mathlib.Core.List.{List, _∷_}
-use lib.Dec.{eqb}
 use lib.ListN.{length, drop, drop-of-length-le}
-use borrow.Author.Tests.{eqb-true, eqb-false}
 use Rattle.chunk.specs.Table.{Row, rowBytes, fieldAt, rowAt, rows, below, children}
 use Rattle.chunk.proofs.TableLaws.{length-rows, drop-rows, children-end, children-found, children-deeper}
-use Rattle.validator.specs.Contracts.{prototypeOf}
+use Rattle.validator.specs.Contracts.{Passes, prototypeOf}
 
 -- how many children of a row of this depth stand in the rows from i on
 abbrev from : List ℕ → ℕ → ℕ → ℕ
 from table depth i = length (children depth (drop i (rows table)))
 
+-- a row by its depth, as it was read
+module _ (table : List ℕ) (depth at : ℕ) (there : at < length table / rowBytes) (x : ℕ) (e : x ≡ fieldAt table at 0) where
+  here : rowAt table at .depth ≡ x
+  unfolding rowAt
+  here = sym e
+
+  split : from table depth at ≡ length (children depth (rowAt table at ∷ drop (suc at) (rows table)))
+  split = ap (λ (l : List Row). length (children depth l)) (drop-rows table at there)
+
+  none-left : x ≤ depth → from table depth at ≡ 0
+  none-left h = split ∙ ap length (children-end depth (rowAt table at) (drop (suc at) (rows table)) (omega (arith, here)))
+
+  one-child : x ≡ suc depth → from table depth at ≡ suc (from table depth (at + 1))
+  one-child h = split ∙ ap length (children-found depth (rowAt table at) (drop (suc at) (rows table)) (here ∙ h)) ∙ ap (λ (i : ℕ). suc (from table depth i)) (sym (add-one at))
+
+  pub deeper : suc depth < x → from table depth (at + 1) ≡ from table depth at
+  deeper h =
+      ap (from table depth) (add-one at)
+      ∙ sym (split ∙ ap length (children-deeper depth (rowAt table at) (drop (suc at) (rows table)) (omega (arith, here))))
+
+  pub passes : (first : ℕ) → x ≤ suc depth → first ≤ at → from table depth at ≡ from table depth first → Passes table depth first at
+  passes first h l same = record { onward = l; same = same; shallow = λ _. omega (arith, here) }
+
+-- the rows are all passed
+pub passes-all : (table : List ℕ) (depth first at : ℕ) → length table / rowBytes ≤ at → first ≤ at → from table depth at ≡ from table depth first → Passes table depth first at
+passes-all table depth first at h l same = record { onward = l; same = same; shallow = λ t. absurd (omega arith) }
+
 module _ (table : List ℕ) (first depth : ℕ) where
-  -- so many of them stand before row `at`
+  -- so many of them stand before row `at`, which is no deeper than they are
   pub record Counted (count at : ℕ) : Type 0 where
     pub left : count + from table depth at ≡ from table depth first
     pub few : count ≤ at
+    pub shallow : at < length table / rowBytes → rowAt table at .depth ≤ suc depth
 
-  pub count-begins : Counted 0 first
-  count-begins = record { left = omega arith; few = omega arith }
+  pub count-begins : (at : ℕ) → Passes table depth first at → Counted 0 at
+  count-begins at p = record { left = omega (arith, p .same); few = omega arith; shallow = p .shallow }
 
   module _ (count at : ℕ) (v : Counted count at) where
     pub count-ends : length table / rowBytes ≤ at → count ≡ from table depth first
@@ -33,28 +58,13 @@ module _ (table : List ℕ) (first depth : ℕ) where
         omega (arith, v .left)
 
     module _ (there : at < length table / rowBytes) (x : ℕ) (e : x ≡ fieldAt table at 0) where
-      here : rowAt table at .depth ≡ x
-      unfolding rowAt
-      here = sym e
-
       pub count-stops : x ≤ depth → count ≡ from table depth first
-      count-stops h =
-          let none : from table depth at ≡ 0 = ap (λ (l : List Row). length (children depth l)) (drop-rows table at there) ∙ ap length (children-end depth (rowAt table at) (drop (suc at) (rows table)) (omega (arith, here))) in
-          omega (arith, v .left)
+      count-stops h = omega (arith, v .left, none-left table depth at there x e h)
 
-      one-more : depth < x → from table depth at ≡ cond (eqb x (suc depth)) 1 0 + from table depth (suc at)
-      one-more h = ap (λ (l : List Row). length (children depth l)) (drop-rows table at there) ∙ go (eqb x (suc depth)) refl
-        where
-          go : (b : Bool) → eqb x (suc depth) ≡ b → length (children depth (rowAt table at ∷ drop (suc at) (rows table))) ≡ cond b 1 0 + from table depth (suc at)
-          go true q =
-              ap length (children-found depth (rowAt table at) (drop (suc at) (rows table)) (omega (arith, here, eqb-true x (suc depth) q))) ∙ omega arith
-          go false q =
-              ap length (children-deeper depth (rowAt table at) (drop (suc at) (rows table)) (omega (arith, here, eqb-false x (suc depth) q))) ∙ omega arith
-
-      pub count-next : (m : ℕ) → depth < x → m ≡ cond (eqb x (suc depth)) 1 0 → m ≤ 1 → Counted (count + m) (at + 1)
-      count-next m h f l =
-          let one : at + 1 ≡ suc at = omega arith in
-          record { left = ap (λ (i : ℕ). count + m + from table depth i) one ∙ omega (arith, v .left, one-more h, f); few = omega (arith, v .few) }
+      pub count-next : depth < x → (next : ℕ) → Passes table depth (at + 1) next → Counted (count + 1) next
+      count-next h next p =
+          let child : x ≡ suc depth = omega (arith, here table depth at there x e, v .shallow there) in
+          record { left = omega (arith, v .left, one-child table depth at there x e child, p .same); few = omega (arith, v .few, p .onward); shallow = p .shallow }
 
 -- ---- a prototype by its fields, as they were read
 

@@ -1,5 +1,5 @@
 -- What the code's own types stand for: the terms in which its contracts cite the definitions of `verdict`. Assumes nothing: these are definitions.
-use Prim.Native.Nat.{ℕ, suc, _+_}
+use Prim.Native.Nat.{ℕ, suc, _+_, _/_, _<_, _≤_}
 use mathlib.Core.Path.{_≡_}
 use mathlib.Core.Bool.{Bool, _&&_, _||_, not}
 use mathlib.Core.List.{List, [], _∷_}
@@ -11,7 +11,7 @@ use Rattle.opcodes.specs.Words.{Field, operand, is, isConstant, decoded}
 use Rattle.opcodes.specs.declared.Opcode51.{Opcode51}
 use Rattle.opcodes.specs.declared.OpcodeField.the-variants.{Known}
 use Rattle.opcodes.specs.declared.RawInstruction51.{RawInstruction51}
-use Rattle.chunk.specs.Table.{Proto, rowAt, rows, children}
+use Rattle.chunk.specs.Table.{Proto, rowBytes, rowAt, rows, children}
 use Rattle.chunk.specs.Roles.{Role, Instruction, ClosureBinding, SetlistExtra, roleAt}
 use Rattle.chunk.specs.Calls.{Answer, refused, accepted}
 use Rattle.roles.specs.Contracts.{refusedOf, roleIn}
@@ -71,6 +71,12 @@ prototypeOf table i =
       stack = r .stack;
       children = length (children (r .depth) (drop (suc i) (rows table)));
     }
+
+-- from row j on there are as many children of a prototype of this depth as from row i on, and row j, if there is one, is no deeper than one
+pub record Passes (table : List ℕ) (depth i j : ℕ) : Type 0 where
+  pub onward : i ≤ j
+  pub same : length (children depth (drop j (rows table))) ≡ length (children depth (drop i (rows table)))
+  pub shallow : j < length table / rowBytes → rowAt table j .depth ≤ suc depth
 
 -- the limits of a prototype's operands are these
 pub record Limits (p : Proto) (q : Prototype) : Type 0 where

@@ -6,14 +6,12 @@ use roles::table::ROW_BYTES;
 use roles::table::STACK;
 use roles::table::UPVALUES;
 use roles::table::WORDS;
-ghost use mathlib.Core.Bool.{cond};
 ghost use mathlib.Core.Path.{_≡_};
-ghost use lib.Dec.{eqb};
-ghost use Prim.Native.Nat.{_+_, _*_, _/_, _<_, _≤_, suc};
+ghost use Prim.Native.Nat.{_+_, _*_, _/_, _<_, _≤_};
 ghost use lib.ListN.{drop, length};
 ghost use Rattle.chunk.specs.Refusals.{maxRows};
 ghost use Rattle.chunk.specs.Table.{children, fieldAt, rowBytes, rowFields, rows};
-ghost use Rattle.validator.specs.Contracts.{prototypeOf};
+ghost use Rattle.validator.specs.Contracts.{Passes, prototypeOf};
 
 // What the diagnostics of a prototype depend on beside its words and their roles.
 pub struct Prototype {
@@ -58,25 +56,29 @@ fn count_children(protos: &[u8], first: usize, depth: u32) -> u32
 {
     let rows = protos.len() / ROW_BYTES;
     let mut count = 0;
-    let mut at = first;
+    let mut at = pass_deeper(protos, first, depth);
     while at < rows {
-        let d = field(protos, at, DEPTH);
-        if d <= depth {
+        if field(protos, at, DEPTH) <= depth {
             return count;
         }
-        count += one_deeper(d, depth);
-        at += 1;
+        count += 1;
+        at = pass_deeper(protos, at + 1, depth);
     }
     count
 }
 
-// 1 where the one depth is that of a child of the other.
-fn one_deeper(d: u32, depth: u32) -> u32
-    ensures { λ r. ⌜ r ≡ cond (eqb d (suc depth)) 1 0 ⌝ }
-    ensures { λ r. ⌜ r ≤ 1 ⌝ }
+// The next row, from `first` on, that is not deeper than the children of a prototype of this depth.
+fn pass_deeper(protos: &[u8], first: usize, depth: u32) -> usize
+    ensures { λ r. ⌜ Passes (now (protos .entry)) depth first r ⌝ }
 {
-    if d <= depth {
-        return 0;
+    let rows = protos.len() / ROW_BYTES;
+    let child_depth = (depth as u64) + 1;
+    let mut at = first;
+    while at < rows {
+        if (field(protos, at, DEPTH) as u64) <= child_depth {
+            return at;
+        }
+        at += 1;
     }
-    if d - depth == 1 { 1 } else { 0 }
+    at
 }

@@ -20,15 +20,13 @@ count-children-spec =
     (tie.spec
     Inv
     μ
-    (λ c. (count-begins _ _ _, refl))
+    (λ c κs. tt)
+    (λ c. (count-begins _ _ _ _ (c .pass-deeper .ensures), refl))
     (λ c κs. (omega arith, omega arith))
     (λ c. count-stops _ _ _ _ _ (c .before .before .before .loop .inv .0) (omega arith) _ (c .before .field .ensures) (c .if1 .taken))
+    (λ c. omega (arith, c .before .before .before .loop .inv .0 .few))
+    (λ c. omega arith)
     (λ c κs. tt)
-    (λ c. omega (arith, c .before .before .before .before .loop .inv .0 .few))
-    (λ c. omega arith)
-    (λ c. omega arith)
-    (λ c. (
-      count-next _ _ _ _ _ (c .before .before .before .before .loop .inv .0) (omega arith) _ (c .before .before .field .ensures) _ (c .before .if1 .left) (c .one-deeper .ensures .0) (omega arith),
-      omega arith,
-    ))
+    (λ c. omega (arith, c .pass-deeper2 .ensures .onward))
+    (λ c. (count-next _ _ _ _ _ (c .before .before .before .before .loop .inv .0) (omega arith) _ (c .before .before .field .ensures) (c .before .if1 .left) _ (c .pass-deeper2 .ensures), refl))
     (λ c. count-ends _ _ _ _ _ (c .before .loop .inv .0) (omega arith)))

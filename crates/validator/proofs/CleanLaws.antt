@@ -354,14 +354,14 @@ module _ (p : Proto) (q : Prototype) (code roles : List ℕ) (d : Describes p q 
 
   -- the word that was read
   pub word-clean : pc < length code / 4 → (b : Bool) → b ≡ not (isExecutable (roleIn roles pc)) → b ≡ false → (v : ℕ) (w : RawInstruction51) → v ≡ u32At code (4 * pc) → w ≡ decoded v → w .«opcode_num» ≤ 37
-      → OperandsBelow q (w .raw) → FlowKept p (shape (w .«opcode_num») / 16777216) pc (w .bx) → diagnosticsAt p pc ≡ []
-  word-clean there b e f v w read split known o k =
+      → OperandsBelow q (w .raw) → (s : ℕ) → s ≡ shape (w .«opcode_num») → FlowKept p (s / 16777216) pc (w .bx) → diagnosticsAt p pc ≡ []
+  word-clean there b e f v w read split known o s named k =
       let again = split-again v w split in
       let raw : w .raw ≡ wordAt p pc = raw-of v w split ∙ read ∙ word-read p q code roles d pc there in
       let number : w .«opcode_num» ≡ opcode (wordAt p pc) = split-number w again ∙ ap opcode raw in
       let bx : w .bx ≡ fieldBx (wordAt p pc) = split-bx w again ∙ ap fieldBx raw in
       clean p q pc (d .limits) (executes p q code roles d pc there b e f) (omega (arith, number)) (subst (OperandsBelow q) raw o)
-      (subst (λ (n : ℕ). FlowKept p (shape (opcode (wordAt p pc)) / 16777216) pc n) bx (subst (λ (n : ℕ). FlowKept p (shape n / 16777216) pc (w .bx)) number k))
+      (subst (λ (n : ℕ). FlowKept p (shape (opcode (wordAt p pc)) / 16777216) pc n) bx (subst (λ (n : ℕ). FlowKept p (n / 16777216) pc (w .bx)) (named ∙ ap shape number) k))
 
 -- ---- the words one after another
 

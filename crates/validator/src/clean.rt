@@ -95,10 +95,11 @@ pub fn next_suspect(proto: Prototype, code: &[u8], roles: &[u8], from: usize) ->
         2,
         proto.children,
     ];
+    let table = SHAPES;
     let n = code.len() / 4;
     let mut pc = from;
     while pc < n {
-        if !is_clean(proto, &limits, code, roles, pc) {
+        if !is_clean(proto, &limits, &table, code, roles, pc) {
             return pc;
         }
         pc += 1;
@@ -106,10 +107,17 @@ pub fn next_suspect(proto: Prototype, code: &[u8], roles: &[u8], from: usize) ->
     pc
 }
 
-// Whether the word at pc is a companion or is found clean.
-fn is_clean(proto: Prototype, limits: &[u32], code: &[u8], roles: &[u8], pc: usize) -> bool
+// Whether the word at pc is a companion or is found clean. The table is lent, since one that is named here would be copied for each word.
+fn is_clean(
+    proto: Prototype,
+    limits: &[u32],
+    table: &[u32],
+    code: &[u8],
+    roles: &[u8],
+    pc: usize,
+) -> bool
     requires { ⌜ (pc < length (now code) / 4) × (length (now code) ≤ maxWordBytes) × (length (now roles) ≤ 2 * maxWordBytes) ⌝ }
-    requires { ⌜ now limits ≡ limitsOf proto ⌝ }
+    requires { ⌜ (now limits ≡ limitsOf proto) × (now table ≡ shapes) ⌝ }
     ensures { λ r. ⌜ ((p : Proto) → Describes p proto (now (code .entry)) (now (roles .entry)) → r ≡ true → diagnosticsAt p pc ≡ []) ⌝ }
     ensures { λ r. ⌜ ((p : Proto) → Describes p proto (now (code .entry)) (now (roles .entry)) → r ≡ false → Executable p pc) ⌝ }
 {
@@ -120,7 +128,7 @@ fn is_clean(proto: Prototype, limits: &[u32], code: &[u8], roles: &[u8], pc: usi
     if LAST_OPCODE < w.opcode_num {
         return false;
     }
-    let shape = SHAPES[w.opcode_num as usize];
+    let shape = table[w.opcode_num as usize];
     if !operands_below(proto, limits, shape, w) {
         return false;
     }

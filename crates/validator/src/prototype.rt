@@ -46,7 +46,7 @@ pub fn field(protos: &[u8], row: usize, k: usize) -> u32
     requires { ⌜ (rowBytes * row + rowBytes ≤ length (now protos)) × (k < rowFields) ⌝ }
     ensures { λ r. ⌜ r ≡ fieldAt (now (protos .entry)) row k ⌝ }
 {
-    read_u32(protos, ROW_BYTES * row + 4 * k)
+    read_u32(&protos[ROW_BYTES * row..ROW_BYTES * row + ROW_BYTES], 4 * k)
 }
 
 // How many children a prototype of this depth has, among the rows from `first` on.

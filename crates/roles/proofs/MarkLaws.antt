@@ -1,9 +1,10 @@
 -- The records that mark an executable word and its companions in a role buffer. Assumes nothing.
 use Prim.Native.Nat.{ℕ, _+_, _-_, _*_, _≤_, _<_}
 use native.Mathlib.Omega.{arith}
-use mathlib.Core.Path.{_≡_, refl, sym, _∙_, ap}
-use mathlib.Core.List.{List, [], _∷_, flatMap}
-use lib.ListN.{length, take, length-take}
+use native.Mathlib.Nat.{add-zero}
+use mathlib.Core.Path.{_≡_, refl, sym, _∙_, ap, ap₂}
+use mathlib.Core.List.{List, [], _∷_, _++_, flatMap}
+use lib.ListN.{length, take, drop, length-take}
 use lib.Seq.{take-all, take-nil}
 use Rattle.opcodes.specs.Lists.{tabulate}
 use Rattle.opcodes.specs.Bytes.{i32Record, u32Record, overwrite}
@@ -12,7 +13,8 @@ use Rattle.roles.specs.Contracts.{ownerField, indexField, claimedRoles}
 use Rattle.roles.specs.declared.discovery.Companions.{Companions}
 use Rattle.roles.specs.declared.discovery.Companions.the-variants.{None, Bindings, Extra}
 use Rattle.opcodes.proofs.ListLaws.{length-tabulate, take-tabulate}
-use Rattle.chunk.proofs.RoleRecordLaws.{records-none, records-next}
+use Rattle.opcodes.proofs.PartLaws.{paste}
+use Rattle.chunk.proofs.RoleRecordLaws.{length-records, records-none, records-next}
 
 -- a role's record has its two fields
 pub one-record : (r : Role) → recordsOf (r ∷ []) ≡ u32Record (ownerField r ∷ indexField r ∷ [])
@@ -20,6 +22,17 @@ unfolding recordsOf i32Record flatMap roleFields ownerField indexField
 one-record Instruction = refl
 one-record (ClosureBinding owner index) = refl
 one-record (SetlistExtra owner) = refl
+
+-- the record of the word at pc, written to the part of the buffer that it takes
+pub record-pasted : (old part : List ℕ) (pc size : ℕ) (r : Role) (owner index : ℕ) → size ≡ roleBytes → roleBytes * pc + roleBytes ≤ length old → owner ≡ ownerField r → index ≡ indexField r
+    → part ≡ overwrite (take size (drop (roleBytes * pc) old)) 0 (u32Record (owner ∷ index ∷ []))
+    → take (roleBytes * pc) old ++ (part ++ drop size (drop (roleBytes * pc) old)) ≡ overwrite old (roleBytes * pc) (recordsOf (r ∷ []))
+record-pasted old part pc size r owner index whole inside o i e =
+    let at = roleBytes * pc in
+    let fields : u32Record (owner ∷ index ∷ []) ≡ recordsOf (r ∷ []) = ap₂ (λ (a b : ℕ). u32Record (a ∷ b ∷ [])) o i ∙ sym (one-record r) in
+    ap (λ (l : List ℕ). take at old ++ (l ++ drop size (drop at old))) (e ∙ ap (overwrite (take size (drop at old)) 0) fields)
+    ∙ paste old at size 0 (recordsOf (r ∷ [])) (omega (arith, length-records (r ∷ []))) (omega arith)
+    ∙ ap (λ (n : ℕ). overwrite old n (recordsOf (r ∷ []))) (add-zero at)
 
 -- ---- the companions of an owner, as far as they exist
 

@@ -1,8 +1,8 @@
 // Upvalue bindings, after the end of luad's `load_proto_51`. A record is three i32: instack, index and the pc of the word that binds.
 use crate::discovery::Companions;
+use crate::discovery::word_at;
 use crate::role::NONE;
 use opcodes::RawInstruction51;
-use opcodes::bytes::read_u32;
 use opcodes::bytes::write_record;
 ghost use mathlib.Core.Path.{_≡_};
 ghost use Prim.Native.Nat.{_+_, _*_, _/_, _%_, _<_, _≤_};
@@ -95,7 +95,7 @@ fn bind_words(records: &mut [u8], code: &[u8], pc: usize, count: usize)
     let mut j = 0;
     while j < count {
         let at = pc + 1 + j;
-        bind_word(records, j, at as u32, read_u32(code, 4 * at));
+        bind_word(records, j, at as u32, word_at(code, at));
         j += 1;
     }
 }

@@ -14,7 +14,7 @@ ghost use mathlib.Core.Path.{_≡_};
 ghost use lib.Dec.{eqb};
 ghost use Prim.Native.Nat.{_+_, _*_, _/_, _<_, _≤_};
 ghost use lib.ListN.{length, take};
-ghost use Rattle.opcodes.specs.Bytes.{overwrite, u32s};
+ghost use Rattle.opcodes.specs.Bytes.{overwrite, u32At, u32s};
 ghost use Rattle.opcodes.specs.Lists.{tabulate};
 ghost use Rattle.chunk.specs.Bindings.{writes};
 ghost use Rattle.chunk.specs.Refusals.{maxRows, maxWordBytes};
@@ -67,7 +67,7 @@ pub fn discover_roles_lua51(
     let mut cursor = first_child(protos, row, index);
     let mut pc = 0;
     while pc < n {
-        let claim = claim_of(protos, row, index, cursor, read_u32(code, 4 * pc));
+        let claim = claim_of(protos, row, index, cursor, word_at(code, pc));
         cursor = claim.cursor;
         write_role(out, pc, Lua51PhysicalRole::Instruction);
         let companions = claim.companions;
@@ -75,6 +75,14 @@ pub fn discover_roles_lua51(
         bind_claim(bindings, base, code, pc, companions, existing);
         pc += 1 + existing;
     }
+}
+
+// The word at pc. (A part of four bytes is read without a test of its length.)
+pub(crate) fn word_at(code: &[u8], pc: usize) -> u32
+    requires { ⌜ 4 * pc + 4 ≤ length (now code) ⌝ }
+    ensures { λ r. ⌜ r ≡ u32At (now (code .entry)) (4 * pc) ⌝ }
+{
+    read_u32(&code[4 * pc..4 * pc + 4], 0)
 }
 
 // The cursor before the first child of a row: whatever the index has, no child is known.

@@ -12,6 +12,7 @@ ghost use mathlib.Core.List.{[]};
 ghost use lib.Dec.{leb, ltb};
 ghost use lib.IntN.{_-ℤ_, pos};
 ghost use lib.ListN.{getD, length};
+ghost use Rattle.opcodes.specs.Bytes.{u32At};
 ghost use Rattle.opcodes.specs.Words.{decoded};
 ghost use Rattle.chunk.specs.Refusals.{maxWordBytes};
 ghost use Rattle.chunk.specs.Roles.{Executable};
@@ -124,7 +125,7 @@ fn is_clean(
     if is_companion(roles, pc) {
         return true;
     }
-    let w = RawInstruction51::decode(read_u32(code, 4 * pc));
+    let w = RawInstruction51::decode(word_at(code, pc));
     if LAST_OPCODE < w.opcode_num {
         return false;
     }
@@ -133,6 +134,14 @@ fn is_clean(
         return false;
     }
     goes_to_word(proto, roles, shape / 0x100_0000, pc as u32, w.bx)
+}
+
+// The word at pc. (A part of four bytes is read without a test of its length.)
+fn word_at(code: &[u8], pc: usize) -> u32
+    requires { ⌜ 4 * pc + 4 ≤ length (now code) ⌝ }
+    ensures { λ r. ⌜ r ≡ u32At (now (code .entry)) (4 * pc) ⌝ }
+{
+    read_u32(&code[4 * pc..4 * pc + 4], 0)
 }
 
 // Whether all that the word names is below its limit.

@@ -21,7 +21,7 @@ loop-again c =
     let b = c .before .before in
     let l = b .before .before .before .before .loop in
     let a = b .before .before .before .before .before .before .before .args in
-    let word = b .before .read-u32 .ensures ∙ sym (getD-u32s (a .code .now) (a .pc + 1 + l .j) (omega arith)) in
+    let word = b .before .word-at .ensures ∙ sym (getD-u32s (a .code .now) (a .pc + 1 + l .j) (omega arith)) in
     (omega arith, b .bind-word .kept .0 ∙ l .inv .1, bound-more _ _ _ _ _ _ _ word (l .inv .2) (b .bind-word .ensures))
 
 returns : tie.Need-returns Inv μ
@@ -40,8 +40,7 @@ bind-words-spec =
     (λ c. omega arith)
     (λ c. omega arith)
     (λ c. omega arith)
-    (λ c. omega arith)
-    (λ c κs. tt)
+    (λ c κs. omega arith)
     (λ c κs. omega arith)
     (λ c. omega arith)
     (λ c. omega arith)

@@ -26,7 +26,7 @@ bind-requires c κs =
     let l = q .before .before .before .before in
     let a = l .before .before .before .before .before .before .before .before .args in
     let pre = l .before .before .before .before .before .before .before .before .pre in
-    let step = owner-step _ _ _ (pre .1 .0) _ _ _ (l .loop .inv .0) (omega arith) (pre .1 .1 .0 .1) _ (q .before .read-u32 .ensures) _ (q .claim-of .ensures .0) _ _ _ (m .before .before .before .before .write-role .ensures) (m .mark .ensures) in
+    let step = owner-step _ _ _ (pre .1 .0) _ _ _ (l .loop .inv .0) (omega arith) (pre .1 .1 .0 .1) _ (q .before .word-at .ensures) _ (q .claim-of .ensures .0) _ _ _ (m .before .before .before .before .write-role .ensures) (m .mark .ensures) in
     let from = subst⁻¹ (BindsFrom (a .protos .now) (a .row) (a .base)) (l .loop .inv .1 .long) (pre .1 .1 .1 .0) in (
       (omega (arith, step .most), pre .1 .1 .0 .0, omega (arith, from .begins, from .few, records-front (rows (a .protos .now)) (suc (a .row)))),
       bindable-here _ _ _ (code-of _ _ _ (pre .1 .0)) _ _ from _ _ _ _ _ _ step,
@@ -38,8 +38,8 @@ loop-again c =
     let q = m .before .before .before .before .before .before .before .before .before in
     let l = q .before .before .before .before in
     let pre = l .before .before .before .before .before .before .before .before .pre in
-    let step = owner-step _ _ _ (pre .1 .0) _ _ _ (l .loop .inv .0) (omega arith) (pre .1 .1 .0 .1) _ (q .before .read-u32 .ensures) _ (q .claim-of .ensures .0) _ _ _ (m .before .before .before .before .write-role .ensures) (m .mark .ensures) in (
-      pass-next _ _ _ (pre .1 .0) _ _ _ (l .loop .inv .0) (omega arith) (pre .1 .1 .0 .1) _ (q .before .read-u32 .ensures) _ (q .claim-of .ensures .0) _ _ step,
+    let step = owner-step _ _ _ (pre .1 .0) _ _ _ (l .loop .inv .0) (omega arith) (pre .1 .1 .0 .1) _ (q .before .word-at .ensures) _ (q .claim-of .ensures .0) _ _ _ (m .before .before .before .before .write-role .ensures) (m .mark .ensures) in (
+      pass-next _ _ _ (pre .1 .0) _ _ _ (l .loop .inv .0) (omega arith) (pre .1 .1 .0 .1) _ (q .before .word-at .ensures) _ (q .claim-of .ensures .0) _ _ step,
       bind-next _ _ _ (code-of _ _ _ (pre .1 .0)) _ _ (pre .1 .1 .1 .0) _ _ _ _ _ _ step _ _ _ (l .loop .inv .1) (c .before .before .bind-claim .ensures),
       l .loop .inv .2,
       q .claim-of .kept .1 .1 .0 ∙ l .loop .inv .3,
@@ -62,8 +62,7 @@ discover-roles-lua51-spec =
     μ
     (λ c κs. let pre = c .before .before .before .before .before .before .pre in (pre .0, pre .1 .1 .1 .1))
     (λ c. (pass-begins _ _ _ (c .before .before .before .before .before .before .before .pre .1 .0) _, bind-begins _ _ _ _, refl, refl, c .first-child .ensures))
-    (λ c. omega arith)
-    (λ c κs. tt)
+    (λ c κs. omega arith)
     (λ c κs. let l = c .before .before .before in (l .before .before .before .before .before .before .before .before .pre .0, l .loop .inv .4))
     (λ c κs. let l = c .before .before .before .before .before .before .before .before in omega (arith, l .loop .inv .0 .long, l .loop .inv .2, c .before .before .before .before .before .before .before .loop-test .taken, l .before .before .before .before .before .before .before .before .pre .1 .1 .0 .1))
     (λ c. omega arith)

@@ -40,7 +40,7 @@ returns-4 c =
     let pre = m .before .before .before .before .before .pre in
     (
       λ p d e.
-          word-clean p _ _ _ d _ (pre .0 .0) _ (m .is-companion .ensures) (w .before .before .if1 .left) _ _ (w .before .read-u32 .ensures) (w .decode .ensures) (c .before .before .before .before .before .if2 .left)
+          word-clean p _ _ _ d _ (pre .0 .0) _ (m .is-companion .ensures) (w .before .before .if1 .left) _ _ (w .before .word-at .ensures) (w .decode .ensures) (c .before .before .before .before .before .if2 .left)
           (c .before .before .operands-below .ensures (passed _ _ refl (c .before .if3 .left))) _ (ap (λ (l : List ℕ). getD l (w .decode .result .«opcode_num») 0) (pre .1 .1)) (c .goes-to-word .ensures p (d .stands) e),
       λ p d e. executes p _ _ _ d _ (pre .0 .0) _ (m .is-companion .ensures) (w .before .before .if1 .left),
     )
@@ -51,7 +51,6 @@ is-clean-spec =
     (tie.spec
     (λ c κs. search needs)
     (λ c. (λ p d e. companion-clean p _ _ _ d _ _ (c .before .is-companion .ensures) (c .if1 .taken), λ p d e. true≢false e))
-    (λ c. search needs)
     (λ c κs. search needs)
     (λ c κs. search needs)
     (λ c. let m = c .before .before .before .before .before in (λ p d e. true≢false (sym e), λ p d e. executes p _ _ _ d _ (m .before .before .before .before .before .pre .0 .0) _ (m .is-companion .ensures) (c .before .before .before .before .if1 .left)))

@@ -6,14 +6,14 @@ use mathlib.Core.Logic.{_⊎_, inl, inr}
 use mathlib.Core.Bool.{Bool, true, false}
 use mathlib.Core.List.{List, [], _∷_, _++_, flatMap, foldl-append, foldl-map}
 use mathlib.Core.Option.{Option, none, some}
-use lib.ListN.{length, getD, drop, length-take}
+use lib.ListN.{length, getD, take, drop, length-take}
 use Rattle.opcodes.specs.Lists.{upFrom, tabulate}
 use Rattle.opcodes.specs.Bytes.{u32s}
 use Rattle.opcodes.specs.Words.{is, fieldBx, CLOSURE}
 use Rattle.chunk.specs.Table.{Row, rowBytes, rowAt, rows, Proto, protoOf}
-use Rattle.chunk.specs.Roles.{ClosureBinding, hasExtra, wordAt, executableAt, bindingCount, existing, bindingWords}
+use Rattle.chunk.specs.Roles.{Role, ClosureBinding, hasExtra, wordAt, executableAt, bindingCount, existing, bindingWords}
 use Rattle.chunk.specs.Bindings.{Write, bindingOf, writeOf, writesAt, writes, firstBinding, bindingTotal, bindingBytes}
-use Rattle.roles.specs.Contracts.{recordsBetween, childOfRow, protoIn, recordsBefore, childBindings, companionsOf, claimedRoles}
+use Rattle.roles.specs.Contracts.{recordsBetween, childOfRow, protoIn, recordsBefore, ownedBindings, childBindings, companionsOf, claimedRoles}
 use Rattle.roles.specs.BindingSteps.{boundBy, boundFrom, boundClaim, RoomForAllOrNone, BindsFrom, Bindable, stored, boundIn}
 use Rattle.roles.specs.declared.discovery.Companions.{Companions}
 use Rattle.roles.specs.declared.discovery.Companions.the-variants.{None, Bindings, Extra}
@@ -26,7 +26,8 @@ use Rattle.chunk.proofs.ChildLaws.{found}
 use Rattle.chunk.proofs.WriteLaws.{writes-next}
 use Rattle.roles.proofs.CountLaws.{between-first}
 use Rattle.roles.proofs.SearchLaws.{no-upvalues}
-use Rattle.roles.proofs.MarkLaws.{existingRoles}
+use Rattle.roles.proofs.MarkLaws.{owned-roles, existingRoles}
+use Rattle.roles.proofs.BindingStepLaws.{owned-bound, owned-bindable}
 use Rattle.roles.proofs.RolePassLaws.{OwnerHere, OwnerStep}
 
 -- ---- the records of a child
@@ -106,15 +107,16 @@ module _ (table : List ℕ) (row : ℕ) (code : List ℕ) where
       abbrev named : Option Row
       named = childOfRow table row (fieldBx w)
 
-      claim : cs ≡ Bindings upvalues (recordsBefore table row named)
+      claim : cs ≡ ownedBindings upvalues (recordsBefore table row named)
       unfolding companionsOf childBindings
       claim = step .owned ∙ rw closure
 
       claimed : k ≡ min (length code / 4 - pc - 1) upvalues
-      unfolding existingRoles claimedRoles
+      unfolding existingRoles
       claimed =
           step .size
           ∙ ap (λ (c : Companions). length (existingRoles (length code / 4) pc c)) claim
+          ∙ ap (λ (rs : List Role). length (take (length code / 4 - pc - 1) rs)) (owned-roles pc upvalues (recordsBefore table row named))
           ∙ length-take (length code / 4 - pc - 1) (tabulate upvalues (ClosureBinding pc))
           ∙ ap (min (length code / 4 - pc - 1)) (length-tabulate (ClosureBinding pc) upvalues)
 
@@ -152,12 +154,13 @@ module _ (table : List ℕ) (row : ℕ) (code : List ℕ) where
           ∙ ap (λ (n : ℕ). boundFrom (u32s code) (pc + 1) n k out) (place c e)
 
       closure-bound : (out : List ℕ) → boundIn table row (writesAt p pc) out ≡ boundClaim (u32s code) pc base k cs out
-      unfolding boundClaim
-      closure-bound out = by-child named refl out ∙ sym (ap (λ (c : Companions). boundClaim (u32s code) pc base k c out) claim)
+      closure-bound out =
+          by-child named refl out
+          ∙ sym (ap (λ (c : Companions). boundClaim (u32s code) pc base k c out) claim ∙ owned-bound (u32s code) out pc base k upvalues (recordsBefore table row named) (omega (arith, claimed)))
 
       closure-bindable : Bindable base k room cs
-      unfolding Bindable recordsBefore
-      closure-bindable = subst (Bindable base k room) (sym claim) (omega (arith, claimed), fits (binds-from .fits))
+      unfolding recordsBefore
+      closure-bindable = subst (Bindable base k room) (sym claim) (owned-bindable base k room upvalues (recordsBefore table row named) (omega (arith, claimed)) (fits (binds-from .fits)))
         where
           all : (c : Option Row) → named ≡ c → bindingBytes * bindingTotal (rows table) ≤ room → bindingBytes * (base + recordsBefore table row c + upvalues) ≤ room
           all none e h = omega (arith, no-upvalues table row (fieldBx w) e, binds-from .begins, records-front (rows table) (suc row))

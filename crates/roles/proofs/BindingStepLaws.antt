@@ -13,6 +13,7 @@ use Rattle.opcodes.specs.Bytes.{i32Bits, u32Record, overwrite}
 use Rattle.opcodes.specs.Words.{decoded, MOVE, GETUPVAL}
 use Rattle.opcodes.specs.declared.RawInstruction51.{RawInstruction51}
 use Rattle.chunk.specs.Bindings.{Binding, bindingIndex, bindingOf, bindingBytes, bindingRecords}
+use Rattle.roles.specs.Contracts.{ownedBindings}
 use Rattle.roles.specs.BindingSteps.{setRecord, boundBy, boundFrom, boundClaim, Bindable}
 use Rattle.roles.specs.declared.discovery.Companions.{Companions}
 use Rattle.roles.specs.declared.discovery.Companions.the-variants.{None, Bindings, Extra}
@@ -159,6 +160,19 @@ module _ (words old new : List ℕ) (pc base count : ℕ) (cs : Companions) wher
 
     pub claim-unfit : length old < bindingBytes → new ≡ old → new ≡ boundClaim words pc base count cs old
     claim-unfit h d = claim-bound (d ∙ sym (words-unfit words (pc + 1) (base + first) count old h))
+
+-- binding words, of any number
+pub owned-bound : (words old : List ℕ) (pc base count n first : ℕ) → count ≤ n → boundClaim words pc base count (ownedBindings n first) old ≡ boundFrom words (pc + 1) (base + first) count old
+unfolding boundClaim ownedBindings
+owned-bound words old pc base count zero first h =
+    let none : 0 ≡ count = omega arith in
+    bound-none words (pc + 1) (base + first) old ∙ ap (λ (k : ℕ). boundFrom words (pc + 1) (base + first) k old) none
+owned-bound words old pc base count (suc n) first h = refl
+
+pub owned-bindable : (base count room n first : ℕ) → count ≤ n → (room < bindingBytes) ⊎ (bindingBytes * (base + first + n) ≤ room) → Bindable base count room (ownedBindings n first)
+unfolding Bindable ownedBindings
+owned-bindable base count room zero first h fits = tt
+owned-bindable base count room (suc n) first h fits = (h, fits)
 
 -- there is room for some records, and so for those of the child
 pub bindable-child : (base count room : ℕ) (cs : Companions) (n first : ℕ) → cs ≡ Bindings n first → bindingBytes ≤ room → Bindable base count room cs → (count ≤ n) × (bindingBytes * (base + first + n) ≤ room)

@@ -1,5 +1,5 @@
 -- The records that mark an executable word and its companions in a role buffer. Assumes nothing.
-use Prim.Native.Nat.{ℕ, _+_, _-_, _*_, _≤_, _<_}
+use Prim.Native.Nat.{ℕ, zero, suc, _+_, _-_, _*_, _≤_, _<_}
 use native.Mathlib.Omega.{arith}
 use native.Mathlib.Nat.{add-zero}
 use mathlib.Core.Path.{_≡_, refl, sym, _∙_, ap, ap₂}
@@ -9,7 +9,7 @@ use lib.Seq.{take-all, take-nil}
 use Rattle.opcodes.specs.Lists.{tabulate}
 use Rattle.opcodes.specs.Bytes.{i32Record, u32Record, overwrite}
 use Rattle.chunk.specs.Roles.{Role, Instruction, ClosureBinding, SetlistExtra, roleFields, roleBytes, recordsOf}
-use Rattle.roles.specs.Contracts.{ownerField, indexField, claimedRoles}
+use Rattle.roles.specs.Contracts.{ownerField, indexField, ownedBindings, claimedRoles}
 use Rattle.roles.specs.declared.discovery.Companions.{Companions}
 use Rattle.roles.specs.declared.discovery.Companions.the-variants.{None, Bindings, Extra}
 use Rattle.opcodes.proofs.ListLaws.{length-tabulate, take-tabulate}
@@ -35,6 +35,12 @@ record-pasted old part pc size r owner index whole inside o i e =
     ∙ ap (λ (n : ℕ). overwrite old n (recordsOf (r ∷ []))) (add-zero at)
 
 -- ---- the companions of an owner, as far as they exist
+
+-- binding words, of any number
+pub owned-roles : (pc n first : ℕ) → claimedRoles pc (ownedBindings n first) ≡ tabulate n (ClosureBinding pc)
+unfolding claimedRoles ownedBindings
+owned-roles pc zero first = refl
+owned-roles pc (suc n) first = refl
 
 -- so many were marked
 abbrev pub Marked : List ℕ → List ℕ → ℕ → ℕ → Companions → ℕ → Type 0

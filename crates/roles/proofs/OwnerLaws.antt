@@ -1,6 +1,6 @@
 -- What a word is by the number of its opcode, and what an executable one owns. Assumes nothing.
-use Prim.Native.Nat.{ℕ}
-use mathlib.Core.Path.{_≡_, sym, _∙_, ap}
+use Prim.Native.Nat.{ℕ, zero, suc}
+use mathlib.Core.Path.{_≡_, refl, sym, _∙_, ap}
 use mathlib.Core.Bool.{true, false, cond}
 use mathlib.Core.List.{List, [], _∷_}
 use lib.Dec.{eqb}
@@ -8,8 +8,8 @@ use borrow.Author.Tests.{eq-eqb, ne-eqb}
 use Rattle.opcodes.specs.Words.{decoded, is, opcode, CLOSURE, SETLIST}
 use Rattle.opcodes.specs.declared.RawInstruction51.{RawInstruction51}
 use Rattle.chunk.specs.Roles.{hasExtra}
-use Rattle.roles.specs.Contracts.{childBindings, companionsOf}
-use Rattle.roles.specs.declared.discovery.Companions.the-variants.{None, Extra}
+use Rattle.roles.specs.Contracts.{ownedBindings, childBindings, companionsOf}
+use Rattle.roles.specs.declared.discovery.Companions.the-variants.{None, Bindings, Extra}
 
 -- a word that was split has this opcode, or has another
 module _ (w : ℕ) (r : RawInstruction51) (split : r ≡ decoded w) where
@@ -33,3 +33,13 @@ module _ (table : List ℕ) (row w : ℕ) (r : RawInstruction51) (split : r ≡ 
   pub owns-nothing : (r .«opcode_num» ≡ CLOSURE → ⊥) → (r .«opcode_num» ≡ SETLIST → ⊥) → None ≡ companionsOf table row w
   unfolding companionsOf hasExtra
   owns-nothing f g = rw (has-other w r split CLOSURE f, has-other w r split SETLIST g)
+
+-- binding words of some number, as it was tested
+pub owned-none : (n first : ℕ) → n ≡ 0 → None ≡ ownedBindings n first
+unfolding ownedBindings
+owned-none n first e = sym (ap (λ (k : ℕ). ownedBindings k first) e)
+
+pub owned-some : (n first : ℕ) → (n ≡ 0 → ⊥) → Bindings n first ≡ ownedBindings n first
+unfolding ownedBindings
+owned-some zero first f = absurd (f refl)
+owned-some (suc n) first f = refl

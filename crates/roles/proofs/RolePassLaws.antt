@@ -19,7 +19,7 @@ use Rattle.opcodes.proofs.ByteLaws.{length-u32s, getD-u32s, length-overwrite}
 use Rattle.chunk.proofs.RoleLaws.{role-executable, executable, owned-count, past-claims, no-both}
 use Rattle.chunk.proofs.RoleBufferLaws.{length-roles}
 use Rattle.chunk.proofs.RoleRecordLaws.{records-none, records-next}
-use Rattle.roles.proofs.MarkLaws.{Marked, existingRoles, owner-marked}
+use Rattle.roles.proofs.MarkLaws.{owned-roles, Marked, existingRoles, owner-marked}
 
 -- ---- a list from index k on, by its front
 
@@ -39,7 +39,7 @@ claims-claimed table row pc w ws = go (is w (CLOSURE ∷ [])) (hasExtra w) refl 
   where
     go : (c x : Bool) → is w (CLOSURE ∷ []) ≡ c → hasExtra w ≡ x → claimedRoles pc (companionsOf table row w) ≡ claims (protoIn table row ws) pc w
     go true true c x = no-both w (subst⁻¹ T x tt) (subst⁻¹ T c tt)
-    go true false c x = rw (c, x, append-nil)
+    go true false c x = rw (c, x, owned-roles, append-nil)
     go false true c x = rw (c, x)
     go false false c x = rw (c, x)
 

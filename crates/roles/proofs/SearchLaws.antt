@@ -12,11 +12,11 @@ use lib.ListN.{length, getD, drop, set, length-set, List·getD-eq-default}
 use lib.Seq.{getD-set-same, getD-set-other}
 use borrow.Author.Tests.{ltb-true, ltb-false, eqb-true, eqb-false}
 use Rattle.chunk.specs.Table.{Row, rowBytes, fieldAt, rowAt, rows, children, childAt}
-use Rattle.roles.specs.Contracts.{recordsBetween, childFrom, childOfRow, inIndex, RoomForChildren, Tracks, protoIn, recordsBefore, childBindings}
+use Rattle.roles.specs.Contracts.{recordsBetween, childFrom, childOfRow, inIndex, RoomForChildren, Tracks, protoIn, recordsBefore, ownedBindings, childBindings}
 use Rattle.roles.specs.declared.table.Child.{Child}
 use Rattle.roles.specs.declared.table.Child.the-variants as child
 use Rattle.roles.specs.declared.search.Cursor.{Cursor}
-use Rattle.roles.specs.declared.discovery.Companions.the-variants.{Bindings}
+use Rattle.roles.specs.declared.discovery.Companions.the-variants.{None}
 use Rattle.chunk.proofs.TableLaws.{child-upvalues, child-missing, element-missing}
 use Rattle.chunk.proofs.ChildLaws.{element-past-end, too-few, row-end, row-found, row-next, row-deeper, found}
 use Rattle.roles.proofs.CountLaws.{none-between, between-join, between-one, wrapped}
@@ -205,7 +205,7 @@ module _ (table : List ℕ) (parent : ℕ) where
                 ∙ ap (λ (n : ℕ). childAt d (drop n (rows table)) j) past;
           }
 
-  missing : (k : ℕ) → child.Missing ≡ child-of k → childOfRow table parent k ≡ none
+  pub missing : (k : ℕ) → child.Missing ≡ child-of k → childOfRow table parent k ≡ none
   missing k e = not-found table (suc parent) 0 (childOfRow table parent k) e
 
   -- a missing child has no upvalues
@@ -213,11 +213,9 @@ module _ (table : List ℕ) (parent : ℕ) where
   unfolding childOfRow protoIn
   no-upvalues k e = List·getD-eq-default (protoIn table parent [] .children) 0 (child-missing (rowAt table parent) (drop (suc parent) (rows table)) [] k e)
 
-  pub missing-child : (k : ℕ) → child.Missing ≡ child-of k → Bindings 0 0 ≡ childBindings table parent k
-  unfolding childBindings recordsBefore
-  missing-child k e =
-      ap (λ (n : ℕ). Bindings n 0) (sym (no-upvalues k (missing k e)))
-      ∙ ap (λ (o : Option Row). Bindings (getD (protoIn table parent [] .children) k 0) (recordsBefore table parent o)) (sym (missing k e))
+  pub missing-child : (k : ℕ) → child.Missing ≡ child-of k → None ≡ childBindings table parent k
+  unfolding childBindings ownedBindings
+  missing-child k e = sym (ap (λ (n : ℕ). ownedBindings n (recordsBefore table parent (childOfRow table parent k))) (no-upvalues k (missing k e)))
 
   -- a search that begins right after the row finds its children
   pub anew : (k d : ℕ) (c : Child) → d ≡ fieldAt table parent 0 → c ≡ search table (parent + 1) d k 0 → c ≡ child-of k

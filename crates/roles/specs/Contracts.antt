@@ -1,5 +1,5 @@
 -- What the code's own types stand for: the terms in which its contracts cite the other definitions. Assumes nothing: these are definitions.
-use Prim.Native.Nat.{ℕ, suc, _+_, _-_, _*_, _/_, _%_, _^_, _≤_, _<_}
+use Prim.Native.Nat.{ℕ, zero, suc, _+_, _-_, _*_, _/_, _%_, _^_, _≤_, _<_}
 use mathlib.Core.Path.{_≡_}
 use mathlib.Core.Bool.{cond}
 use mathlib.Core.List.{List, [], _∷_}
@@ -104,9 +104,14 @@ unfoldable pub recordsBefore : List ℕ → ℕ → Option Row → ℕ
 recordsBefore table row none = 0
 recordsBefore table row (some c) = recordsBetween table (suc row) (c .row) % 2 ^ 32
 
+-- so many binding words, of a child whose first binding record has this index
+unfoldable pub ownedBindings : ℕ → ℕ → Companions
+ownedBindings zero first = None
+ownedBindings (suc n) first = Bindings (suc n) first
+
 -- a CLOSURE's companions, by the child that it names
 unfoldable pub childBindings : List ℕ → ℕ → ℕ → Companions
-childBindings table row k = Bindings (getD (protoIn table row [] .children) k 0) (recordsBefore table row (childOfRow table row k))
+childBindings table row k = ownedBindings (getD (protoIn table row [] .children) k 0) (recordsBefore table row (childOfRow table row k))
 
 -- what an executable word of the row owns
 unfoldable pub companionsOf : List ℕ → ℕ → ℕ → Companions

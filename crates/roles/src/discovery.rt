@@ -21,7 +21,7 @@ ghost use Rattle.chunk.specs.Refusals.{maxRows, maxWordBytes};
 ghost use Rattle.chunk.specs.Roles.{ClosureBinding, recordsOf, roleBytes, roles};
 ghost use Rattle.chunk.specs.Table.{rowAt, rowBytes};
 ghost use Rattle.roles.specs.BindingSteps.{BindsFrom, boundIn};
-ghost use Rattle.roles.specs.Contracts.{RoomForChildren, Tracks, childBindings, claimedRoles, companionsOf, protoIn};
+ghost use Rattle.roles.specs.Contracts.{RoomForChildren, Tracks, childBindings, claimedRoles, companionsOf, ownedBindings, protoIn};
 ghost use Rattle.roles.specs.declared.discovery.Companions.the-variants.{Extra, None};
 
 // The opcodes that own words, by their numbers (docs/DECISIONS.md says why not by `Opcode51`).
@@ -132,12 +132,23 @@ fn claim_child(protos: &[u8], row: usize, index: &mut [u32], cursor: Cursor, k: 
     match child {
         Child::Missing => Claim {
             cursor,
-            companions: Companions::Bindings(0, 0),
+            companions: Companions::None,
         },
         Child::Row(first, child) => Claim {
             cursor,
-            companions: Companions::Bindings(field(protos, child, UPVALUES), first),
+            companions: binding_words(field(protos, child, UPVALUES), first),
         },
+    }
+}
+
+// So many binding words, of a child whose first record has this index.
+fn binding_words(count: u32, first: u32) -> Companions
+    ensures { λ r. ⌜ r ≡ ownedBindings count first ⌝ }
+{
+    if count == 0 {
+        Companions::None
+    } else {
+        Companions::Bindings(count, first)
     }
 }
 

@@ -48,13 +48,13 @@ pub fn find_child(protos: &[u8], at: usize, depth: u32, k: u32, first: u32) -> C
     if rows - at <= k as usize {
         return Child::Missing;
     }
-    let Child::Row(records, row) = next_child(protos, at, depth, first) else {
+    let Child::Row(own, row) = next_child(protos, at, depth, first) else {
         return Child::Missing;
     };
     if k == 0 {
-        return Child::Row(records, row);
+        return Child::Row(own, row);
     }
-    let next = wrapping_add_u32(records, field(protos, row, UPVALUES));
+    let next = wrapping_add_u32(own, field(protos, row, UPVALUES));
     find_child(protos, row + 1, depth, k - 1, next)
 }
 

@@ -17,12 +17,12 @@ use Rattle.opcodes.proofs.AllLaws.{all-append, all-at, all-upFrom, all-upTo, fl
 use Rattle.opcodes.proofs.ListLaws.{length-tabulate, upFrom-append, flatMap-append}
 use Rattle.chunk.specs.Table.{Proto, rowAt, rows, childAt}
 use Rattle.chunk.specs.Roles.{Role, Instruction, ClosureBinding, SetlistExtra, isExecutable, executableAt, Executable, bindingCount, hasExtra, claims, roleAt, wordAt, owned, existing, companions, isTruncated}
-use Rattle.roles.specs.Contracts.{childFrom, childOfRow, childBindings, protoIn, roleIn}
+use Rattle.roles.specs.Contracts.{childFrom, childOfRow, protoIn, roleIn}
 use Rattle.roles.specs.declared.table.Child.{Child}
 use Rattle.roles.specs.declared.table.Child.the-variants as child
 use Rattle.chunk.proofs.RoleLaws.{executable-role, exists, role, executable, first-executable, next-executable, owned-count, owned-role}
 use Rattle.roles.proofs.OwnerLaws.{has-opcode, has-other}
-use Rattle.roles.proofs.SearchLaws.{FoundChild, found-child, missing-child, anew}
+use Rattle.roles.proofs.SearchLaws.{FoundChild, found-child, missing, no-upvalues, anew}
 use Rattle.verdict.specs.Diagnostics.{diagnostic, truncationAt}
 use Rattle.validator.specs.Contracts.{Describes, lastOwner, faultDiagnostics, prototypeOf}
 use Rattle.validator.proofs.DescribedLaws.{word-read, words-of}
@@ -233,8 +233,7 @@ module _ (table : List ℕ) (q : Prototype) (same : q ≡ prototypeOf table (q .
     child-found first r e = found-child table (q .row) k r first (sym e ∙ child-is)
 
     pub child-missed : c ≡ child.Missing → 0 ≡ getD (protoIn table (q .row) [] .children) k 0
-    unfolding childBindings
-    child-missed e = let none = missing-child table (q .row) k (sym e ∙ child-is) in cc
+    child-missed e = sym (no-upvalues table (q .row) k (missing table (q .row) k (sym e ∙ child-is)))
 
   -- its words, and the last one's owner
   module _ (code records : List ℕ) (d : Describes (protoIn table (q .row) (u32s code)) q code records) (some : length code / 4 ≡ 0 → ⊥) where

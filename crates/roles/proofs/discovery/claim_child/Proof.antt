@@ -2,8 +2,7 @@
 use native.Mathlib.Omega.{arith}
 use mathlib.Core.Path.{sym, _∙_, ap₂}
 use borrow.Author.Needs.{needs}
-use Rattle.roles.specs.Contracts.{childBindings}
-use Rattle.roles.specs.declared.discovery.Companions.the-variants.{Bindings}
+use Rattle.roles.specs.Contracts.{ownedBindings, childBindings}
 use Rattle.roles.proofs.SearchLaws.{found-child, missing-child}
 use Rattle.roles.proofs.discovery.claim_child.Statement.{statement}
 use Rattle.roles.proofs.discovery.claim_child.Tie as tie
@@ -21,9 +20,9 @@ missing c =
 found : tie.Need-returns-2
 unfolding childBindings
 found c =
-    let e = c .before .before .before .before .before .before .before .find .ensures in
-    let f = found-child _ _ _ _ _ (sym (c .before .before .child .given .1) ∙ e .0) in
-    (ap₂ Bindings (c .field .ensures ∙ sym (f .upvalues)) (f .before), e .1)
+    let e = c .before .before .before .before .before .before .before .before .find .ensures in
+    let f = found-child _ _ _ _ _ (sym (c .before .before .before .child .given .1) ∙ e .0) in
+    (c .binding-words .ensures ∙ ap₂ ownedBindings (c .before .field .ensures ∙ sym (f .upvalues)) (f .before), e .1)
 
 pub claim-child-spec : {M : Type 1} → statement M
 claim-child-spec =
@@ -33,6 +32,7 @@ claim-child-spec =
     (λ c. search needs)
     (λ c. search needs)
     field-requires
+    (λ c κs. search needs)
     (λ c. search needs)
     missing
     (λ c. search needs)

@@ -43,22 +43,22 @@ pub +find-child-spec : {M : Type 1} → statement M
     (λ c.
     let f = c .before .before .before .before in
     let a = f .before .before .before .before .args in
-    sym (c .before .before .records .given .1)
+    sym (c .before .before .own .given .1)
     ∙ f .next-child .ensures
     ∙ ap (λ (n : ℕ). childFrom (a .protos .now) (a .at) (a .first) (childAt (a .depth) (drop (a .at) (rows (a .protos .now))) n)) (sym (c .if3 .taken)))
     (λ c κs.
-    let e = sym (c .before .before .records .given .1) ∙ c .before .before .before .before .next-child .ensures in
+    let e = sym (c .before .before .own .given .1) ∙ c .before .before .before .before .next-child .ensures in
     (omega (arith, first-child _ _ _ _ _ _ e .there), omega arith))
     (λ c κs. tt)
     (λ c.
     let w = c .before .before .before .before in
-    omega (arith, first-child _ _ _ _ _ _ (sym (w .records .given .1) ∙ w .before .before .next-child .ensures) .there))
+    omega (arith, first-child _ _ _ _ _ _ (sym (w .own .given .1) ∙ w .before .before .next-child .ensures) .there))
     (λ c. omega arith)
     (λ c κs.
     let w = c .before .before .before .before in
-    let f = first-child _ _ _ _ _ _ (sym (w .records .given .1) ∙ w .before .before .next-child .ensures) in
+    let f = first-child _ _ _ _ _ _ (sym (w .own .given .1) ∙ w .before .before .next-child .ensures) in
     (omega (arith, f .there, f .after), tt))
     (λ c.
     let w = c .before .before .before .before .before in
-    let f = first-child _ _ _ _ _ _ (sym (w .records .given .1) ∙ w .before .before .next-child .ensures) in
+    let f = first-child _ _ _ _ _ _ (sym (w .own .given .1) ∙ w .before .before .next-child .ensures) in
     c .find-child .ensures ∙ f .next _ _ _ (c .before .before .field .ensures) (c .before .wrapping-add-u32 .ensures) (c .before .before .before .if3 .left))

@@ -70,5 +70,9 @@ pub(crate) fn write_role(roles: &mut [u8], pc: usize, role: Lua51PhysicalRole)
     ensures { λ _. ⌜ now (roles .exit) ≡ overwrite (now (roles .entry)) (roleBytes * pc) (recordsOf (roleOf role ∷ [])) ⌝ }
 {
     let record = [role.owner(), role.index()];
-    write_record(&mut roles[ROLE_BYTES * pc..ROLE_BYTES * pc + ROLE_BYTES], 0, &record);
+    write_record(
+        &mut roles[ROLE_BYTES * pc..ROLE_BYTES * pc + ROLE_BYTES],
+        0,
+        &record,
+    );
 }

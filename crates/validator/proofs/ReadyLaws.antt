@@ -16,13 +16,16 @@ use Rattle.chunk.proofs.TableLaws.{length-rows}
 use Rattle.chunk.proofs.TotalLaws.{words-front, words-next}
 use Rattle.roles.proofs.RoleFillLaws.{part-length, part-proto}
 use Rattle.verdict.specs.Diagnostics.{protoSteps}
-use Rattle.validator.specs.Contracts.{Describes, prototypeOf}
+use Rattle.validator.specs.Contracts.{Describes, Ordered, prototypeOf}
 use Rattle.validator.specs.Steps.{State, Ready, advance, ownSteps}
 use Rattle.validator.specs.declared.prototype.Prototype.{Prototype}
 use Rattle.validator.specs.declared.walk.WalkState.{WalkState}
 
 pub few-rows : (table words roles : List ℕ) (w : WalkState) → Ready table words roles w → length table / rowBytes ≤ maxRows
 few-rows table words roles w ready = omega (arith, image-kept table words (ready .filled .accepted) .row-limit, length-rows table)
+
+pub in-order : (table words roles : List ℕ) (w : WalkState) → Ready table words roles w → Ordered table
+in-order table words roles w ready = record { depths = image-kept table words (ready .filled .accepted) .depths; few = few-rows table words roles w ready }
 
 -- the numbers that the code's arithmetic needs
 pub record Room (table words roles : List ℕ) (row first next : ℕ) : Type 0 where

@@ -3,8 +3,9 @@ use Prim.Native.Nat.{ℕ, suc, _+_, _/_, _<_, _≤_}
 use mathlib.Core.Path.{_≡_}
 use mathlib.Core.Bool.{Bool, _&&_, _||_, not}
 use mathlib.Core.List.{List, [], _∷_}
+use mathlib.Core.Option.{none}
 use lib.Dec.{ltb}
-use lib.ListN.{length, drop}
+use lib.ListN.{length, getD, drop}
 use lib.IntN.{pos}
 use Rattle.opcodes.specs.Bytes.{u32s}
 use Rattle.opcodes.specs.Words.{Field, operand, is, isConstant, decoded}
@@ -13,6 +14,7 @@ use Rattle.opcodes.specs.declared.OpcodeField.the-variants.{Known}
 use Rattle.opcodes.specs.declared.RawInstruction51.{RawInstruction51}
 use Rattle.chunk.specs.Table.{Proto, rowBytes, rowAt, rows, children}
 use Rattle.chunk.specs.Roles.{Role, Instruction, ClosureBinding, SetlistExtra, roleAt}
+use Rattle.chunk.specs.Refusals.{badDepth, maxRows}
 use Rattle.chunk.specs.Calls.{Answer, refused, accepted}
 use Rattle.roles.specs.Contracts.{refusedOf, roleIn}
 use Rattle.verdict.specs.Diagnostics.{Diagnostic, diagnostic}
@@ -72,11 +74,28 @@ prototypeOf table i =
       children = length (children (r .depth) (drop (suc i) (rows table)));
     }
 
--- from row j on there are as many children of a prototype of this depth as from row i on, and row j, if there is one, is no deeper than one
-pub record Passes (table : List ℕ) (depth i j : ℕ) : Type 0 where
-  pub onward : i ≤ j
-  pub same : length (children depth (drop j (rows table))) ≡ length (children depth (drop i (rows table)))
-  pub shallow : j < length table / rowBytes → rowAt table j .depth ≤ suc depth
+-- how many children the prototype in row i has
+abbrev pub childCount : List ℕ → ℕ → ℕ
+childCount table i = length (children (rowAt table i .depth) (drop (suc i) (rows table)))
+
+-- a list has that for each row
+pub record ChildCounts (table counts : List ℕ) : Type 0 where
+  pub room : length table / rowBytes ≤ length counts
+  pub counted : (i : ℕ) → i < length table / rowBytes → getD counts i 0 ≡ childCount table i
+
+-- the rows are in preorder, and not too many
+pub record Ordered (table : List ℕ) : Type 0 where
+  pub depths : badDepth 0 0 (rows table) ≡ none
+  pub few : length table / rowBytes ≤ maxRows
+
+-- the rows from `row` on were counted: a list has the number of children of each, and a second one, at each depth but 0, how many of them are of this
+-- depth and stand before any that is less deep
+pub record Counted (table : List ℕ) (row : ℕ) (counts pending : List ℕ) : Type 0 where
+  pub room : length table / rowBytes ≤ length counts
+  pub deep : length pending ≡ 201
+  pub counted : (i : ℕ) → row ≤ i → i < length table / rowBytes → getD counts i 0 ≡ childCount table i
+  pub opened : (d : ℕ) → d < 200 → getD pending (suc d) 0 ≡ length (children d (drop row (rows table)))
+  pub roots : getD pending 0 0 + row ≤ length table / rowBytes
 
 -- the limits of a prototype's operands are these
 pub record Limits (p : Proto) (q : Prototype) : Type 0 where

@@ -1,31 +1,38 @@
 // The check call.
 use crate::proto::validate_proto;
+use crate::prototype::count_children;
 use crate::walk::DIAGNOSTIC_BYTES;
 use crate::walk::WalkState;
 use roles::calls::Answer;
 use roles::calls::write_roles;
+use roles::refusals::MAX_PROTOS;
 use roles::refusals::Refusal;
+use roles::table::ROW_BYTES;
 ghost use mathlib.Core.Bool.{_||_};
 ghost use mathlib.Core.Path.{_≡_};
-ghost use Prim.Native.Nat.{_+_, _-_, _*_, _≤_};
+ghost use Prim.Native.Nat.{_+_, _-_, _*_, _/_, _<_, _≤_};
 ghost use mathlib.Core.List.{flatMap};
 ghost use lib.Dec.{ltb};
 ghost use lib.ListN.{length};
 ghost use Rattle.opcodes.specs.Bytes.{i32Record, overwrite};
 ghost use Rattle.chunk.specs.Calls.{accepted, answer, filled, rolesAfter};
 ghost use Rattle.chunk.specs.Refusals.{tooShort};
+ghost use Rattle.chunk.specs.Table.{rowAt, rowBytes};
 ghost use Rattle.verdict.specs.Check.{Checked, checkAnswer, checked, diagnosticsAfter};
 ghost use Rattle.verdict.specs.Image.{diagnostics as found};
 ghost use Rattle.verdict.specs.Statements.{Guarantee};
 ghost use Rattle.verdict.specs.Walk.{MAX-DIAGNOSTICS, diagnosticBytes, diagnosticFields, verdictOf};
 ghost use Rattle.validator.specs.Contracts.{answerOf, concluded, imageOf, verdictIn};
-ghost use Rattle.validator.specs.Steps.{Filled, Walked};
+ghost use Rattle.validator.specs.Steps.{Filled, Ready, Walked, stepRow, walkTo};
 
 // The diagnostic limit: so many, with those that came in, end the walk at a test.
 const MAX_DIAGNOSTICS: u64 = 10000;
 
 // No image has more diagnostics: 9,999 before its last test, and a word that has 256.
 const MOST_DIAGNOSTICS: usize = 10255;
+
+// So many rows are few: for them a short list of counts is made.
+const FEW_ROWS: usize = 256;
 
 // What is said of an image.
 pub enum Verdict {
@@ -127,7 +134,43 @@ fn validate_rows(
         error: false,
         limit: false,
     };
-    validate_proto(start, protos, words, roles, out)
+    if protos.len() / ROW_BYTES <= FEW_ROWS {
+        validate_few(start, protos, words, roles, out)
+    } else {
+        validate_many(start, protos, words, roles, out)
+    }
+}
+
+// The walk from row 0 on, for a table of few rows.
+fn validate_few(
+    start: WalkState,
+    protos: &[u8],
+    words: &[u8],
+    roles: &[u8],
+    out: &mut [u8],
+) -> WalkState
+    requires { ⌜ Ready (now protos) (now words) (now roles) start × (start .row < length (now protos) / rowBytes) × (length (now protos) / rowBytes ≤ 256) ⌝ }
+    ensures { λ r. ⌜ (r, now (out .exit)) ≡ walkTo (now (protos .entry)) (now (words .entry)) (rowAt (now (protos .entry)) (start .row) .depth) (stepRow (now (protos .entry)) (now (words .entry)) (start, now (out .entry))) ⌝ }
+{
+    let mut counts = [0u32; FEW_ROWS];
+    count_children(protos, &mut counts);
+    validate_proto(start, protos, &counts, words, roles, out)
+}
+
+// The same for any table.
+fn validate_many(
+    start: WalkState,
+    protos: &[u8],
+    words: &[u8],
+    roles: &[u8],
+    out: &mut [u8],
+) -> WalkState
+    requires { ⌜ Ready (now protos) (now words) (now roles) start × (start .row < length (now protos) / rowBytes) ⌝ }
+    ensures { λ r. ⌜ (r, now (out .exit)) ≡ walkTo (now (protos .entry)) (now (words .entry)) (rowAt (now (protos .entry)) (start .row) .depth) (stepRow (now (protos .entry)) (now (words .entry)) (start, now (out .entry))) ⌝ }
+{
+    let mut counts = [0u32; MAX_PROTOS];
+    count_children(protos, &mut counts);
+    validate_proto(start, protos, &counts, words, roles, out)
 }
 
 // How many diagnostics end the walk at a test, after those that came in.

@@ -23,7 +23,7 @@ ghost use Rattle.chunk.specs.Refusals.{maxRows, maxWordBytes};
 ghost use Rattle.chunk.specs.Table.{Proto, rowAt, rowBytes};
 ghost use Rattle.roles.specs.Contracts.{protoIn};
 ghost use Rattle.verdict.specs.Diagnostics.{diagnosticsAt, protoSteps, stackDiagnostics, testedStep};
-ghost use Rattle.validator.specs.Contracts.{Describes, Limits, faultDiagnostics, prototypeOf};
+ghost use Rattle.validator.specs.Contracts.{ChildCounts, Describes, Limits, faultDiagnostics, prototypeOf};
 ghost use Rattle.validator.specs.Steps.{Ready, advance, emitAll, goesOn, ownSteps, stepRow, walkTo};
 
 // The place of the diagnostic of a stack, which has none: the bits of -1.
@@ -32,36 +32,46 @@ const NONE: u32 = 0xffff_ffff;
 // A larger stack is a diagnostic.
 const USUAL_STACK: u32 = 250;
 
-// The next row and all rows below it.
+// The next row and all rows below it, by the number of children of each row.
 pub fn validate_proto(
     walk: WalkState,
     protos: &[u8],
+    counts: &[u32],
     words: &[u8],
     roles: &[u8],
     out: &mut [u8],
 ) -> WalkState
-    requires { ⌜ Ready (now protos) (now words) (now roles) walk × (walk .row < length (now protos) / rowBytes) ⌝ }
+    requires { ⌜ Ready (now protos) (now words) (now roles) walk × (walk .row < length (now protos) / rowBytes) × ChildCounts (now protos) (now counts) ⌝ }
     ensures { λ r. ⌜ (r, now (out .exit)) ≡ walkTo (now (protos .entry)) (now (words .entry)) (rowAt (now (protos .entry)) (walk .row) .depth) (stepRow (now (protos .entry)) (now (words .entry)) (walk, now (out .entry))) ⌝ }
 {
-    let proto = prototype_at(protos, walk.row);
+    let proto = prototype_at(protos, counts, walk.row);
     let own = validate_row(walk, protos, words, roles, out, proto);
     if own.limit {
         return own;
     }
     let next = walk.first + proto.words as usize;
-    validate_children(own.moved(next), protos, words, roles, out, proto.depth)
+    validate_children(
+        own.moved(next),
+        protos,
+        counts,
+        words,
+        roles,
+        out,
+        proto.depth,
+    )
 }
 
 // The rows from the next one on that are deeper than this depth: the children of a prototype, each with the rows below it.
 fn validate_children(
     walk: WalkState,
     protos: &[u8],
+    counts: &[u32],
     words: &[u8],
     roles: &[u8],
     out: &mut [u8],
     depth: u32,
 ) -> WalkState
-    requires { ⌜ Ready (now protos) (now words) (now roles) walk × (walk .row ≤ length (now protos) / rowBytes) ⌝ }
+    requires { ⌜ Ready (now protos) (now words) (now roles) walk × (walk .row ≤ length (now protos) / rowBytes) × ChildCounts (now protos) (now counts) ⌝ }
     ensures { λ r. ⌜ (r, now (out .exit)) ≡ walkTo (now (protos .entry)) (now (words .entry)) depth (walk, now (out .entry)) ⌝ }
 {
     let mut walk = walk;
@@ -70,7 +80,7 @@ fn validate_children(
         if walk.limit {
             return walk;
         }
-        walk = validate_proto(walk, protos, words, roles, out);
+        walk = validate_proto(walk, protos, counts, words, roles, out);
         if walk.limit {
             return walk;
         }

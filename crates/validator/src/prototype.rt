@@ -1,4 +1,4 @@
-// A prototype's row of the table, with the number of its children.
+// A prototype's row of the table, with the number of its children, which are counted for all rows at once.
 use opcodes::bytes::read_u32;
 use roles::table::CONSTANTS;
 use roles::table::DEPTH;
@@ -8,10 +8,10 @@ use roles::table::UPVALUES;
 use roles::table::WORDS;
 ghost use mathlib.Core.Path.{_≡_};
 ghost use Prim.Native.Nat.{_+_, _*_, _/_, _<_, _≤_};
-ghost use lib.ListN.{drop, length};
+ghost use lib.ListN.{length};
 ghost use Rattle.chunk.specs.Refusals.{maxRows};
-ghost use Rattle.chunk.specs.Table.{children, fieldAt, rowBytes, rowFields, rows};
-ghost use Rattle.validator.specs.Contracts.{Passes, prototypeOf};
+ghost use Rattle.chunk.specs.Table.{fieldAt, rowBytes, rowFields};
+ghost use Rattle.validator.specs.Contracts.{ChildCounts, Counted, Ordered, prototypeOf};
 
 // What the diagnostics of a prototype depend on beside its words and their roles.
 pub struct Prototype {
@@ -24,20 +24,19 @@ pub struct Prototype {
     pub children: u32,
 }
 
-// The prototype in a row.
-pub fn prototype_at(protos: &[u8], row: usize) -> Prototype
-    requires { ⌜ (rowBytes * row + rowBytes ≤ length (now protos)) × (length (now protos) / rowBytes ≤ maxRows) ⌝ }
+// The prototype in a row, by the number of children of each row.
+pub fn prototype_at(protos: &[u8], counts: &[u32], row: usize) -> Prototype
+    requires { ⌜ (rowBytes * row + rowBytes ≤ length (now protos)) × (length (now protos) / rowBytes ≤ maxRows) × ChildCounts (now protos) (now counts) ⌝ }
     ensures { λ r. ⌜ r ≡ prototypeOf (now (protos .entry)) row ⌝ }
 {
-    let depth = field(protos, row, DEPTH);
     Prototype {
         row: row as u32,
-        depth,
+        depth: field(protos, row, DEPTH),
         words: field(protos, row, WORDS),
         constants: field(protos, row, CONSTANTS),
         upvalues: field(protos, row, UPVALUES),
         stack: field(protos, row, STACK),
-        children: count_children(protos, row + 1, depth),
+        children: counts[row],
     }
 }
 
@@ -49,36 +48,27 @@ pub fn field(protos: &[u8], row: usize, k: usize) -> u32
     read_u32(&protos[ROW_BYTES * row..ROW_BYTES * row + ROW_BYTES], 4 * k)
 }
 
-// How many children a prototype of this depth has, among the rows from `first` on.
-fn count_children(protos: &[u8], first: usize, depth: u32) -> u32
-    requires { ⌜ length (now protos) / rowBytes ≤ maxRows ⌝ }
-    ensures { λ r. ⌜ r ≡ length (children depth (drop first (rows (now (protos .entry))))) ⌝ }
+// Counts the children of each row, from the last row to the first. For each depth, `pending` has how many rows of it there are from here on, before
+// any that is less deep: those are the children of the row that comes before them, if it is one less deep.
+pub fn count_children(protos: &[u8], counts: &mut [u32])
+    requires { ⌜ Ordered (now protos) × (length (now protos) / rowBytes ≤ length (now counts)) ⌝ }
+    ensures { λ _. ⌜ ChildCounts (now (protos .entry)) (now (counts .exit)) ⌝ }
 {
-    let rows = protos.len() / ROW_BYTES;
-    let mut count = 0;
-    let mut at = pass_deeper(protos, first, depth);
-    while at < rows {
-        if field(protos, at, DEPTH) <= depth {
-            return count;
-        }
-        count += 1;
-        at = pass_deeper(protos, at + 1, depth);
+    let mut pending = [0u32; 201];
+    let mut row = protos.len() / ROW_BYTES;
+    while 0 < row {
+        row -= 1;
+        count_row(protos, row, counts, &mut pending);
     }
-    count
 }
 
-// The next row, from `first` on, that is not deeper than the children of a prototype of this depth.
-fn pass_deeper(protos: &[u8], first: usize, depth: u32) -> usize
-    ensures { λ r. ⌜ Passes (now (protos .entry)) depth first r ⌝ }
+// The next row to the front: those that are one deeper are its children, and it is one more of its own depth.
+fn count_row(protos: &[u8], row: usize, counts: &mut [u32], pending: &mut [u32])
+    requires { ⌜ Ordered (now protos) × (row < length (now protos) / rowBytes) × Counted (now protos) (row + 1) (now counts) (now pending) ⌝ }
+    ensures { λ _. ⌜ Counted (now (protos .entry)) row (now (counts .exit)) (now (pending .exit)) ⌝ }
 {
-    let rows = protos.len() / ROW_BYTES;
-    let child_depth = (depth as u64) + 1;
-    let mut at = first;
-    while at < rows {
-        if (field(protos, at, DEPTH) as u64) <= child_depth {
-            return at;
-        }
-        at += 1;
-    }
-    at
+    let depth = field(protos, row, DEPTH) as usize;
+    counts[row] = pending[depth + 1];
+    pending[depth + 1] = 0;
+    pending[depth] += 1;
 }

@@ -10,6 +10,9 @@ validate-rows-spec =
     tie.close
     (tie.spec
     (λ c κs. search needs)
-    (λ c κs. let f = c .before .before .before .before .before .before .pre in (start-ready _ _ _ f _ refl refl, some-row _ _ _ f))
+    (λ c κs. let f = c .before .before .before .before .before .before .before .pre in (start-ready _ _ _ f _ refl refl, some-row _ _ _ f, c .before .if1 .taken))
+    (λ c κs. let f = c .before .before .before .before .before .before .before .pre in (start-ready _ _ _ f _ refl refl, some-row _ _ _ f))
     (λ c. search needs)
-    (λ c. walked _ _ _ (c .before .before .before .before .before .before .before .before .before .pre) _ _ _ _ _ (c .before .before .before .before .stop-count .ensures) (c .before .before .validate-proto .ensures)))
+    (λ c. walked _ _ _ (c .before .before .before .before .before .before .before .before .before .before .pre) _ _ _ _ _ (c .before .before .before .before .before .stop-count .ensures) (c .before .before .validate-few .ensures))
+    (λ c. search needs)
+    (λ c. walked _ _ _ (c .before .before .before .before .before .before .before .before .before .before .pre) _ _ _ _ _ (c .before .before .before .before .before .stop-count .ensures) (c .before .before .validate-many .ensures)))

@@ -37,8 +37,7 @@ returns-4 : tie.Need-returns-4
 returns-4 c =
     let w = c .before .before .before .before .before .before .before in
     let m = w .before .before .before in
-    let pre = m .before .before .before .before .before .pre in
-    (
+    let pre = m .before .before .before .before .before .pre in (
       λ p d e.
           word-clean p _ _ _ d _ (pre .0 .0) _ (m .is-companion .ensures) (w .before .before .if1 .left) _ _ (w .before .word-at .ensures) (w .decode .ensures) (c .before .before .before .before .before .if2 .left)
           (c .before .before .operands-below .ensures (passed _ _ refl (c .before .if3 .left))) _ (ap (λ (l : List ℕ). getD l (w .decode .result .«opcode_num») 0) (pre .1 .1)) (c .goes-to-word .ensures p (d .stands) e),

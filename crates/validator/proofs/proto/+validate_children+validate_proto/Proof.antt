@@ -23,17 +23,17 @@ use Rattle.validator.proofs.walk.WalkState.tested.Reads as tested-reads
 use Rattle.validator.proofs.proto.+validate_children+validate_proto.{statement}
 use Rattle.validator.proofs.proto.+validate_children+validate_proto.Tie.{close}
 
-abbrev μ-children : Measures 4 validate-children-kinds.ps ℕ
+abbrev μ-children : Measures 5 validate-children-kinds.ps ℕ
 μ-children κs a = (length (a .1 .0 .now) / rowBytes - a .0 .row) * 2 + 1
 
-abbrev μ-proto : Measures 4 validate-proto-kinds.ps ℕ
+abbrev μ-proto : Measures 5 validate-proto-kinds.ps ℕ
 μ-proto κs a = (length (a .1 .0 .now) / rowBytes - a .0 .row) * 2
 
 abbrev Inv-loop : validate-children-lts.InvT-loop
-Inv-loop protos words roles out₀ depth walk₀ out walk = ChildPass protos words depth (walk₀, out₀) (walk, out)
+Inv-loop protos counts words roles out₀ depth walk₀ out walk = ChildPass protos words depth (walk₀, out₀) (walk, out)
 
 abbrev μ-loop : validate-children-lts.MeasureT-loop
-μ-loop protos words roles out₀ depth walk₀ out walk = length protos / rowBytes - walk .row
+μ-loop protos counts words roles out₀ depth walk₀ out walk = length protos / rowBytes - walk .row
 
 pub +validate-children+validate-proto-spec : {M : Type 1} → statement M
 +validate-children+validate-proto-spec =
@@ -42,28 +42,28 @@ pub +validate-children+validate-proto-spec : {M : Type 1} → statement M
       goes-on-reads.Learnt,
       tested-reads.Asked,
       tested-reads.Learnt,
-      and 4 validate-proto-kinds.ps (falls 4 validate-proto-kinds.ps _<_ μ-proto t) validate-proto.Pre,
+      and 5 validate-proto-kinds.ps (falls 5 validate-proto-kinds.ps _<_ μ-proto t) validate-proto.Pre,
       validate-proto.Post,
     )
-    (and 4 validate-children-kinds.ps (is 4 validate-children-kinds.ps μ-children t) validate-children.Pre)
+    (and 5 validate-children-kinds.ps (is 5 validate-children-kinds.ps μ-children t) validate-children.Pre)
     validate-children.Post
     Inv-loop
     μ-loop
-    (λ c. let pre = c .before .before .before .before .pre in record { leads = refl; begins = pre .1 .0 .begins; later = omega arith; within = pre .1 .1; long = refl })
+    (λ c. let pre = c .before .before .before .before .before .pre in record { leads = refl; begins = pre .1 .0 .begins; later = omega arith; within = pre .1 .1; long = refl })
     (λ c κs. tt)
     (λ c κs. tt)
     (λ c. c .before .before .before .before .loop .inv .long)
     (λ c. let l = c .before .before .before .before .loop in let m = more _ _ _ (sym (c .before .before .before .goes-on .ensures) ∙ c .before .before .if1 .taken) in stopped _ _ _ _ _ (l .inv) m _ (c .before .tested .ensures) (c .if2 .taken))
     (λ c κs.
-    let pre = c .before .before .before .before .before .before .before .before .before .before .pre in
+    let pre = c .before .before .before .before .before .before .before .before .before .before .before .pre in
     let l = c .before .before .before .before .before .loop in let m = more _ _ _ (sym (c .before .before .before .before .goes-on .ensures) ∙ c .before .before .before .if1 .taken) in
     let e = c .before .before .tested .ensures in
     let row = tested-row _ _ _ _ _ (l .inv) m _ e in
-    (omega (arith, row, l .inv .later, m .there), (tested-ready _ _ _ _ _ (l .inv) m _ e _ _ (pre .1 .0), omega (arith, row, m .there))))
-    (λ c. c .before .before .before .validate-proto .kept .1 .1 .1 .1 .0 ∙ c .before .before .before .before .before .before .before .before .before .loop .inv .long)
+    (omega (arith, row, l .inv .later, m .there), (tested-ready _ _ _ _ _ (l .inv) m _ e _ _ (pre .1 .0), omega (arith, row, m .there), pre .1 .2)))
+    (λ c. c .before .before .before .validate-proto .kept .1 .1 .1 .1 .1 .0 ∙ c .before .before .before .before .before .before .before .before .before .loop .inv .long)
     (λ c. let l = c .before .before .before .before .before .before .before .before .before .loop in let m = more _ _ _ (sym (c .before .before .before .before .before .before .before .before .goes-on .ensures) ∙ c .before .before .before .before .before .before .before .if1 .taken) in child-stopped _ _ _ _ _ (l .inv) m _ (c .before .before .before .before .before .before .tested .ensures) _ (c .before .before .before .validate-proto .ensures) (c .if3 .taken))
     (λ c. let l = c .before .before .before .before .before .before .before .before .before .loop in let m = more _ _ _ (sym (c .before .before .before .before .before .before .before .before .goes-on .ensures) ∙ c .before .before .before .before .before .before .before .if1 .taken) in let n = rows-fall _ _ _ _ _ (l .inv) m _ (c .before .before .before .before .before .before .tested .ensures) _ (c .before .before .before .validate-proto .ensures) (c .if3 .left) in omega (arith, n .0, n .1))
-    (λ c. let l = c .before .before .before .before .before .before .before .before .before .loop in let m = more _ _ _ (sym (c .before .before .before .before .before .before .before .before .goes-on .ensures) ∙ c .before .before .before .before .before .before .before .if1 .taken) in child-passed _ _ _ _ _ (l .inv) m _ (c .before .before .before .before .before .before .tested .ensures) _ (c .before .before .before .validate-proto .ensures) (c .if3 .left) (c .before .before .before .validate-proto .kept .1 .1 .1 .1 .0))
+    (λ c. let l = c .before .before .before .before .before .before .before .before .before .loop in let m = more _ _ _ (sym (c .before .before .before .before .before .before .before .before .goes-on .ensures) ∙ c .before .before .before .before .before .before .before .if1 .taken) in child-passed _ _ _ _ _ (l .inv) m _ (c .before .before .before .before .before .before .tested .ensures) _ (c .before .before .before .validate-proto .ensures) (c .if3 .left) (c .before .before .before .validate-proto .kept .1 .1 .1 .1 .1 .0))
     (λ c. c .before .before .loop .inv .long)
     (λ c. no-more _ _ _ _ (sym (c .before .goes-on .ensures) ∙ c .if1 .left) ∙ c .before .before .loop .inv .leads))
     λ t. validate-proto-lts.spec (
@@ -73,25 +73,25 @@ pub +validate-children+validate-proto-spec : {M : Type 1} → statement M
       validate-row-reads.Learnt,
       moved-reads.Asked,
       moved-reads.Learnt,
-      and 4 validate-children-kinds.ps (falls 4 validate-children-kinds.ps _<_ μ-children t) validate-children.Pre,
+      and 5 validate-children-kinds.ps (falls 5 validate-children-kinds.ps _<_ μ-children t) validate-children.Pre,
       validate-children.Post,
     )
-    (and 4 validate-proto-kinds.ps (is 4 validate-proto-kinds.ps μ-proto t) validate-proto.Pre)
+    (and 5 validate-proto-kinds.ps (is 5 validate-proto-kinds.ps μ-proto t) validate-proto.Pre)
     validate-proto.Post
-    (λ c κs. let pre = c .before .before .before .before .pre in (omega (arith, pre .1 .1), few-rows _ _ _ _ (pre .1 .0)))
-    (λ c κs. (c .before .before .before .before .before .before .pre .1, c .before .prototype-at .ensures))
+    (λ c κs. let pre = c .before .before .before .before .before .pre in (omega (arith, pre .1 .1), few-rows _ _ _ _ (pre .1 .0), pre .1 .2))
+    (λ c κs. let pre = c .before .before .before .before .before .before .before .pre in ((pre .1 .0, pre .1 .1), c .before .prototype-at .ensures))
     (λ c. c .before .before .before .validate-row .kept .1 .1 .1 .1 .0)
     (λ c. part-ended _ _ _ _ _ (c .before .before .before .validate-row .ensures) (c .if1 .taken))
     (λ c. search needs)
-    (λ c. let pre = c .before .before .before .before .before .before .before .before .before .before .before .before .pre in let r = room _ _ _ _ (pre .1 .0) (pre .1 .1) _ (c .before .before .before .before .before .before .before .prototype-at .ensures) in omega (arith, r .within, r .short))
-    (λ c κs. let pre = c .before .before .before .before .before .before .before .before .before .before .before .before .pre in let row = same-row _ _ _ _ (pre .1 .0) (pre .1 .1) _ _ (c .before .before .before .before .before .validate-row .ensures) in omega (arith, row, pre .1 .1, few-rows _ _ _ _ (pre .1 .0)))
+    (λ c. let pre = c .before .before .before .before .before .before .before .before .before .before .before .before .before .pre in let r = room _ _ _ _ (pre .1 .0) (pre .1 .1) _ (c .before .before .before .before .before .before .before .prototype-at .ensures) in omega (arith, r .within, r .short))
+    (λ c κs. let pre = c .before .before .before .before .before .before .before .before .before .before .before .before .before .pre in let row = same-row _ _ _ _ (pre .1 .0) (pre .1 .1) _ _ (c .before .before .before .before .before .validate-row .ensures) in omega (arith, row, pre .1 .1, few-rows _ _ _ _ (pre .1 .0)))
     (λ c κs.
-    let pre = c .before .before .before .before .before .before .before .before .before .before .before .before .before .before .pre in
+    let pre = c .before .before .before .before .before .before .before .before .before .before .before .before .before .before .before .pre in
     let own = c .before .before .before .before .before .before .before .validate-row .ensures in
     let q = c .before .before .before .before .before .before .before .before .before .prototype-at .ensures in
     let row = next-row _ _ _ _ (pre .1 .0) (pre .1 .1) _ _ own (c .before .before .before .before .if1 .left) _ q _ (c .before .moved .ensures) in
-    (omega (arith, row, pre .1 .1), (next-ready _ _ _ _ (pre .1 .0) (pre .1 .1) _ _ own (c .before .before .before .before .if1 .left) _ q _ (c .before .moved .ensures), omega (arith, row, pre .1 .1))))
-    (λ c. c .before .before .validate-children .kept .1 .1 .1 .1 .0 ∙ c .before .before .before .before .before .before .before .before .before .before .validate-row .kept .1 .1 .1 .1 .0)
+    (omega (arith, row, pre .1 .1), (next-ready _ _ _ _ (pre .1 .0) (pre .1 .1) _ _ own (c .before .before .before .before .if1 .left) _ q _ (c .before .moved .ensures), omega (arith, row, pre .1 .1), pre .1 .2)))
+    (λ c. c .before .before .validate-children .kept .1 .1 .1 .1 .1 .0 ∙ c .before .before .before .before .before .before .before .before .before .before .validate-row .kept .1 .1 .1 .1 .0)
     (λ c.
-    let pre = c .before .before .before .before .before .before .before .before .before .before .before .before .before .before .before .before .before .pre in
+    let pre = c .before .before .before .before .before .before .before .before .before .before .before .before .before .before .before .before .before .before .pre in
     below-walked _ _ _ _ (pre .1 .0) (pre .1 .1) _ _ (c .before .before .before .before .before .before .before .before .before .before .validate-row .ensures) (c .before .before .before .before .before .before .before .if1 .left) _ (c .before .before .before .before .before .before .before .before .before .before .before .before .prototype-at .ensures) _ (c .before .before .before .before .moved .ensures) _ (c .before .before .validate-children .ensures))

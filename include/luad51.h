@@ -23,10 +23,10 @@
  * call at the same time, each with buffers and stack of its own; they may share an image, which is only read.
  * The archive is for x86-64 with the System V calling convention, as on Linux.
  *
- * A call takes at most LUAD51_STACK_BYTES of stack, and a caller that does not know its image must have as much. Every
- * call, also one that is refused, takes about 137,000 of them as compiled for x86-64, most of it an index of children
- * in its frame. The rest is for the search for a child of a CLOSURE, which goes one call deeper for each row that it
- * passes, 48 bytes each. The check also goes one call deeper for each level of nesting.
+ * A call takes at most LUAD51_STACK_BYTES of stack, and a caller that does not know its image must have as much. As
+ * compiled for x86-64 every call, also one that is refused, takes about 132,000 of them for an index of children, and
+ * luad51_roles and luad51_bindings take no more. luad51_check goes one call deeper for each level of nesting, and for a
+ * prototype that ends in a CLOSURE or its binding words one for each child before the one that it names.
  * The time is linear in words and records, and in rows times the depth of nesting, in whatever order CLOSUREs name
  * children.
  *

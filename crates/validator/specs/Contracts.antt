@@ -60,6 +60,10 @@ concluded warnings errors w =
 
 -- ---- a prototype
 
+-- how many children the prototype in row i has
+abbrev pub childCount : List ℕ → ℕ → ℕ
+childCount table i = length (children (rowAt table i .depth) (drop (suc i) (rows table)))
+
 -- the prototype in row i, by its fields
 unfoldable pub prototypeOf : List ℕ → ℕ → Prototype
 prototypeOf table i =
@@ -71,12 +75,8 @@ prototypeOf table i =
       constants = r .constants;
       upvalues = r .upvalues;
       stack = r .stack;
-      children = length (children (r .depth) (drop (suc i) (rows table)));
+      children = childCount table i;
     }
-
--- how many children the prototype in row i has
-abbrev pub childCount : List ℕ → ℕ → ℕ
-childCount table i = length (children (rowAt table i .depth) (drop (suc i) (rows table)))
 
 -- a list has that for each row
 pub record ChildCounts (table counts : List ℕ) : Type 0 where

@@ -24,9 +24,9 @@
  * The archive is for x86-64 with the System V calling convention, as on Linux.
  *
  * A call takes at most LUAD51_STACK_BYTES of stack, and a caller that does not know its image must have as much. As
- * compiled for x86-64 every call, also one that is refused, takes about 132,000 of them for an index of children, and
- * luad51_roles and luad51_bindings take no more. luad51_check goes one call deeper for each level of nesting, and for a
- * prototype that ends in a CLOSURE or its binding words one for each child before the one that it names.
+ * compiled for x86-64 luad51_roles and luad51_bindings take about 132,000 of them, also where they are refused, most of
+ * it for an index of children. luad51_check takes as much and gives it back; then it goes one call deeper for each level
+ * of nesting, and for a prototype that ends in a CLOSURE or its binding words one for each child before the named one.
  * The time is linear in words and records, and in rows times the depth of nesting, in whatever order CLOSUREs name
  * children.
  *

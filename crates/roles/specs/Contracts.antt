@@ -104,7 +104,7 @@ unfoldable pub recordsBefore : List ℕ → ℕ → Option Row → ℕ
 recordsBefore table row none = 0
 recordsBefore table row (some c) = recordsBetween table (suc row) (c .row) % 2 ^ 32
 
--- so many binding words, of a child whose first binding record has this index
+-- so many binding words, or none, of a child; `first` binding records stand between those of the row and those of the child
 unfoldable pub ownedBindings : ℕ → ℕ → Companions
 ownedBindings zero first = None
 ownedBindings (suc n) first = Bindings (suc n) first

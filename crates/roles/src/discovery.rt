@@ -77,7 +77,7 @@ pub fn discover_roles_lua51(
     }
 }
 
-// The word at pc. (A part of four bytes is read without a test of its length.)
+// The word at pc. (Of a part of four bytes the compiler drops the test for room.)
 pub(crate) fn word_at(code: &[u8], pc: usize) -> u32
     requires { ⌜ 4 * pc + 4 ≤ length (now code) ⌝ }
     ensures { λ r. ⌜ r ≡ u32At (now (code .entry)) (4 * pc) ⌝ }
@@ -141,7 +141,7 @@ fn claim_child(protos: &[u8], row: usize, index: &mut [u32], cursor: Cursor, k: 
     }
 }
 
-// So many binding words, of a child whose first record has this index.
+// So many binding words, or none, of a child, with how many binding records stand between the prototype's own and the child's.
 fn binding_words(count: u32, first: u32) -> Companions
     ensures { λ r. ⌜ r ≡ ownedBindings count first ⌝ }
 {

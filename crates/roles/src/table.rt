@@ -58,7 +58,7 @@ pub fn find_child(protos: &[u8], at: usize, depth: u32, k: u32, first: u32) -> C
     find_child(protos, row + 1, depth, k - 1, next)
 }
 
-// The first child, past the rows that are deeper.
+// Child 0 of a row of this depth, among the rows from `at` on: the first that is one deeper. Those that are still deeper are passed.
 fn next_child(protos: &[u8], at: usize, depth: u32, first: u32) -> Child
     ensures { λ r. ⌜ r ≡ childFrom (now (protos .entry)) at first (childAt depth (drop at (rows (now (protos .entry)))) 0) ⌝ }
 {

@@ -78,7 +78,7 @@ prototypeOf table i =
       children = childCount table i;
     }
 
--- a list has that for each row
+-- a list has the number of children of each row
 pub record ChildCounts (table counts : List ℕ) : Type 0 where
   pub room : length table / rowBytes ≤ length counts
   pub counted : (i : ℕ) → i < length table / rowBytes → getD counts i 0 ≡ childCount table i
@@ -89,7 +89,7 @@ pub record Ordered (table : List ℕ) : Type 0 where
   pub few : length table / rowBytes ≤ maxRows
 
 -- the rows from `row` on were counted: a list has the number of children of each, and a second one, at each depth but 0, how many of them are of this
--- depth and stand before any that is less deep
+-- depth and stand before any that is less deep; at depth 0, at most as many as were counted
 pub record Counted (table : List ℕ) (row : ℕ) (counts pending : List ℕ) : Type 0 where
   pub room : length table / rowBytes ≤ length counts
   pub deep : length pending ≡ 201

@@ -136,7 +136,7 @@ fn is_clean(
     goes_to_word(proto, roles, shape / 0x100_0000, pc as u32, w.bx)
 }
 
-// The word at pc. (A part of four bytes is read without a test of its length.)
+// The word at pc. (Of a part of four bytes the compiler drops the test for room.)
 fn word_at(code: &[u8], pc: usize) -> u32
     requires { ⌜ 4 * pc + 4 ≤ length (now code) ⌝ }
     ensures { λ r. ⌜ r ≡ u32At (now (code .entry)) (4 * pc) ⌝ }

@@ -48,8 +48,8 @@ pub fn field(protos: &[u8], row: usize, k: usize) -> u32
     read_u32(&protos[ROW_BYTES * row..ROW_BYTES * row + ROW_BYTES], 4 * k)
 }
 
-// Counts the children of each row, from the last row to the first. For each depth, `pending` has how many rows of it there are from here on, before
-// any that is less deep: those are the children of the row that comes before them, if it is one less deep.
+// Counts the children of each row, from the last row to the first. For each depth up to one more than the most, `pending` has how many of the rows
+// passed have it and stand before any that is less deep.
 pub fn count_children(protos: &[u8], counts: &mut [u32])
     requires { ⌜ Ordered (now protos) × (length (now protos) / rowBytes ≤ length (now counts)) ⌝ }
     ensures { λ _. ⌜ ChildCounts (now (protos .entry)) (now (counts .exit)) ⌝ }
@@ -62,7 +62,7 @@ pub fn count_children(protos: &[u8], counts: &mut [u32])
     }
 }
 
-// The next row to the front: those that are one deeper are its children, and it is one more of its own depth.
+// A row, after all rows behind it: those pending that are one deeper are its children, and it is one more of its own depth.
 fn count_row(protos: &[u8], row: usize, counts: &mut [u32], pending: &mut [u32])
     requires { ⌜ Ordered (now protos) × (row < length (now protos) / rowBytes) × Counted (now protos) (row + 1) (now counts) (now pending) ⌝ }
     ensures { λ _. ⌜ Counted (now (protos .entry)) row (now (counts .exit)) (now (pending .exit)) ⌝ }

@@ -1,15 +1,17 @@
-//! Links the archives that `rt staticlib` wrote. Without that of luad51 all is built but `bench calls` and the comparisons
-//! of calls.
+//! Links the archives that `rt lib` wrote in crates/words_digest and crates/luad51. Without that of luad51 all is built but
+//! `bench calls` and the comparisons of calls.
 use std::path::Path;
 
 fn main() {
     let here = std::env::var("CARGO_MANIFEST_DIR").unwrap();
-    let archives = format!("{here}/../target/staticlib");
-    println!("cargo:rustc-link-search=native={archives}");
-    println!("cargo:rerun-if-changed={archives}/libwords_digest.a");
-    println!("cargo:rerun-if-changed={archives}/libluad51.a");
     println!("cargo:rustc-check-cfg=cfg(luad51)");
-    if Path::new(&format!("{archives}/libluad51.a")).exists() {
-        println!("cargo:rustc-cfg=luad51");
+    for name in ["words_digest", "luad51"] {
+        let folder = format!("{here}/../crates/{name}/out");
+        let archive = format!("{folder}/lib{name}.a");
+        println!("cargo:rustc-link-search=native={folder}");
+        println!("cargo:rerun-if-changed={archive}");
+        if name == "luad51" && Path::new(&archive).exists() {
+            println!("cargo:rustc-cfg=luad51");
+        }
     }
 }

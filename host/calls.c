@@ -1,7 +1,7 @@
 /* Tests the three calls as a C program sees them: refusals and which of them comes first, exact fits and buffers that
  * are too short, limits, empty slices, addresses, the worked examples P1 to P13 of document 01, threads. host/header.c
  * tests the header's numbers and functions. What is expected is written by hand from document 01.
- *     cc -std=c99 -O2 -Iinclude -o calls host/calls.c host/header.c host/lend.c target/staticlib/libluad51.a -pthread
+ *     cc -std=c99 -O2 -Iinclude -o calls host/calls.c host/header.c host/lend.c crates/luad51/out/libluad51.a -pthread
  * Prints a line for each failed expectation. Exit status: 0 none failed, 1 some did or a call touched what it must not,
  * 2 the test itself could not run. */
 #define _POSIX_C_SOURCE 200809L

@@ -1,6 +1,6 @@
 /* How a controller's start-up code uses libluad51.a: it checks the script image in its flash, and starts the script
  * only on a pass. All memory is static. Given a number, that bit of the image's words is flipped first.
- *     cc -std=c99 -O2 -Iinclude -o startup host/startup.c target/staticlib/libluad51.a
+ *     cc -std=c99 -O2 -Iinclude -o startup host/startup.c crates/luad51/out/libluad51.a
  *     ./startup; echo "exit status $?"; ./startup 1155; echo "exit status $?"
  * Exit status: 0 the script was started, 1 it was not, 2 no such bit. These commands print host/startup.out.
  * The check finds what would make the script unsafe to run. A flipped bit can also leave a script that is safe and does

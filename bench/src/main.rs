@@ -26,7 +26,7 @@ fn run(arguments: &[&str]) -> Result<(), String> {
         ["check", "compare"] => luad51::compare::check()?,
         #[cfg(not(luad51))]
         ["calls" | "roles" | "bindings" | "check", ..] => {
-            panic!("built without the archive of luad51: rt staticlib luad51, then build again")
+            panic!("built without the archive of luad51: rt lib in crates/luad51, then build again")
         }
         _ => panic!("bench, bench all [STEP], bench calls [CALL], or bench CALL compare; CALL: roles, bindings, check"),
     }

@@ -1,7 +1,7 @@
 /* How much stack each call takes on images that are to take most of it: as many children as there can be, so that the
  * search for the last goes deepest, as much nesting as there can be, so that the check's walk does, and both; also with
  * children that are missing, whose search passes all rows. The calls run in threads whose stack is filled beforehand.
- *     cc -std=c99 -O2 -Iinclude -o stack tests/replay/stack.c target/staticlib/libluad51.a -pthread
+ *     cc -std=c99 -O2 -Iinclude -o stack tests/replay/stack.c crates/luad51/out/libluad51.a -pthread
  * Exit status: 0 within LUAD51_STACK_BYTES, 1 above, 2 the test itself failed. */
 #define _POSIX_C_SOURCE 200809L
 #include <pthread.h>

@@ -7,7 +7,7 @@ use mathlib.Core.Option.{Option, none}
 use lib.ListN.{length}
 use Rattle.opcodes.specs.Bytes.{i32_record, overwrite}
 use Rattle.chunk.specs.Calls.{accepted, filled}
-use Rattle.roles.specs.Contracts.{refused_of}
+use Rattle.roles.specs.Terms.{refused_of}
 use Rattle.chunk.specs.Refusals.{Refused}
 use Rattle.roles.specs.declared.refusals.Refusal.{Refusal}
 use Rattle.chunk.proofs.RefusalLaws.{or_else_none}
@@ -16,13 +16,13 @@ use Rattle.verdict.specs.Check.{Checked, check_answer, check_refusal, checked, d
 use Rattle.verdict.specs.Image.{Image, diagnostics}
 use Rattle.verdict.specs.Walk.{RowDiagnostic, diagnostic_bytes, diagnostic_fields}
 use Rattle.verdict.proofs.RangeLaws.{check_held}
-use Rattle.validator.specs.Contracts.{answer_of, verdict_in}
+use Rattle.validator.specs.Terms.{answer_of, verdict_in}
 use Rattle.validator.specs.declared.calls.Validation.{Validation}
 use Rattle.validator.specs.declared.calls.Validation.TheVariants as validation
 use Rattle.validator.specs.declared.calls.Verdict.{Verdict as VerdictCode}
 use Rattle.listing.specs.Listing.{done}
 use Rattle.listing.specs.Packcheck.{answer_text, diagnostic_room, max_diagnostics, output_text, refusal_text, result_text, role_room}
-use Rattle.check_listing.specs.Contracts.{diagnostics_in}
+use Rattle.check_listing.specs.Terms.{diagnostics_in}
 use Rattle.check_listing.proofs.RecordLaws.{diagnostics_read}
 
 -- an accepted image

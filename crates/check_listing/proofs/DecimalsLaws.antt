@@ -14,7 +14,7 @@ use borrow.Author.Tests.{eq-eqb, ne_eqb, eqb-true, eqb-false, ltb-true, ltb-fals
 use Rattle.opcodes.specs.Lists.{take_while}
 use Rattle.listing.specs.Listing.{decimals, cons_number, separator}
 use Rattle.listing.specs.Text.{is_digit, is_decimal, value_of}
-use Rattle.check_listing.specs.Contracts.{decimal_of, number_of, numbers_of}
+use Rattle.check_listing.specs.Terms.{decimal_of, number_of, numbers_of}
 use Rattle.check_listing.specs.declared.numbers.Number.TheVariants.{Value, Malformed}
 use Rattle.check_listing.proofs.ScanLaws.{next}
 
@@ -33,9 +33,9 @@ pub decimals_first : (count : ℕ) (line numbers : List ℕ) → decimals count 
 decimals_first count line numbers = parsed_nil (decimals count line) ∙ ap (λ (n : ℕ). parsed [] (decimals n line)) (sym (sub-zero count))
 
 -- what a test takes is the front
-take_while : (f : ℕ → Bool) (l : List ℕ) → take (length (take_while f l)) l ≡ take_while f l
-take_while f [] = refl
-take_while f (x ∷ l) = go (f x) refl (take_while f l)
+take_while_lem : (f : ℕ → Bool) (l : List ℕ) → take (length (take_while f l)) l ≡ take_while f l
+take_while_lem f [] = refl
+take_while_lem f (x ∷ l) = go (f x) refl (take_while_lem f l)
   where
     go : (b : Bool) → f x ≡ b → take (length (take_while f l)) l ≡ take_while f l → take (length (take_while f (x ∷ l))) (x ∷ l) ≡ take_while f (x ∷ l)
     go true e more = rw e (ap (λ (xs : List ℕ). x ∷ xs) more)
@@ -55,7 +55,7 @@ module _ (line : List ℕ) (at end left : ℕ) (ends : end ≡ at + length (take
       let long : length ds ≡ end - at = omega arith in
       let here : at + (length ds + 0) ≡ end = omega arith in
       let after : at + (length ds + 1) ≡ end + 1 = omega arith in
-      let front : ds ≡ take (end - at) (drop at line) = sym (take_while is_digit (drop at line)) ∙ ap (λ (n : ℕ). take n (drop at line)) long in
+      let front : ds ≡ take (end - at) (drop at line) = sym (take_while_lem is_digit (drop at line)) ∙ ap (λ (n : ℕ). take n (drop at line)) long in
       let byte : get_or rest 0 0 ≡ get_or line end 0 = get_or-drop (length ds) (drop at line) 0 0 ∙ get_or-drop at line (length ds + 0) 0 ∙ ap (λ (n : ℕ). get_or line n 0) here in
       let tail : drop 1 rest ≡ drop (end + 1) line = drop-drop 1 (length ds) (drop at line) ∙ drop-drop (length ds + 1) at line ∙ ap (λ (n : ℕ). drop n line) after in
       ap (λ (l : List ℕ). given l (get_or rest 0 0) (decimals left (drop 1 rest))) front

@@ -9,10 +9,9 @@ use mathlib.Core.Option.{Option, none}
 use lib.Dec.{eqb}
 use lib.ListN.{length, length-drop, get_or, take, drop, drop_of_length-le}
 use lib.Seq.{drop-drop}
-use Rattle.listing.specs.Text.{newline, join_first, lines, same}
+use Rattle.listing.specs.Text.{newline, join_first, lines}
 use Rattle.listing.specs.Listing.{read_as, read_line}
-use Rattle.check_listing.specs.Contracts.{line_from, line_length}
-use Rattle.check_listing.specs.declared.reader.Line.TheVariants.{Ends, Other}
+use Rattle.check_listing.specs.Terms.{line_length}
 use Rattle.check_listing.proofs.ScanLaws.{next}
 
 -- the first line of a text that has one
@@ -66,15 +65,6 @@ module _ (text : List ℕ) (at end : ℕ) (ends : end ≡ at + line_length (drop
       some_byte : (b : Bool) (n : ℕ) → 1 ≤ cond b 1 (suc n)
       some_byte true n = omega arith
       some_byte false n = omega arith
-
-  -- the line there is this one, or not
-  pub line_skipped : (l : List ℕ) → same (take (end - at) (drop at text)) l ≡ true → Ends end ≡ line_from text at l
-  unfolding line_from
-  line_skipped l e = rw (line_is, e) (ap Ends ends)
-
-  pub line_other : (l : List ℕ) → same (take (end - at) (drop at text)) l ≡ false → Other ≡ line_from text at l
-  unfolding line_from
-  line_other l e = rw (line_is, e) refl
 
   -- the lines after it
   pub later_lines : drop 1 (lines (drop at text)) ≡ lines (drop end text)

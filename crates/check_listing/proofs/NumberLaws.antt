@@ -1,7 +1,7 @@
 -- Digits, their value, and the numbers of a line. Assumes nothing.
-use Prim.Native.Nat.{ℕ, zero, suc, ◌+◌, ◌-◌, ◌*◌, ◌^◌, ◌<◌, ◌≤◌}
+use Prim.Native.Nat.{ℕ, suc, ◌+◌, ◌-◌, ◌*◌, ◌^◌, ◌<◌, ◌≤◌}
 use native.Mathlib.Omega.{arith}
-use native.Mathlib.Nat.{le_trans, le-mul_of_pos_right, one-le-pow, le_of_lt, mul-le-mul, mul-le-mul_right, mul_assoc, pow-succ', not-suc-le-zero, pos_of_ne-zero}
+use native.Mathlib.Nat.{le_trans, le-mul_of_pos_right, one-le-pow, mul-le-mul_right, mul_assoc, pow-succ', not-suc-le-zero, pos_of_ne-zero}
 use mathlib.Core.Path.{◌≡◌, refl, sym, ap, ◌∙◌, subst, subst⁻¹}
 use mathlib.Core.Bool.{Bool, true, false, ◌&&◌, ◌||◌, cond, not}
 use mathlib.Core.List.{List, [], ◌∷◌, foldl}
@@ -9,64 +9,15 @@ use mathlib.Core.Option.{Option}
 use lib.Dec.{T, eqb, ltb, leb}
 use lib.ListN.{length, get_or, take, drop, drop_of_length-le}
 use lib.Seq.{length-take-le}
-use borrow.Author.Tests.{lt-ltb, le-ltb, le-leb, lt-leb, leb-true, leb-false, eq-eqb, ne_eqb}
+use borrow.Author.Tests.{lt-ltb, le-ltb, leb-true, leb-false, eq-eqb, ne_eqb}
 use Rattle.opcodes.specs.Lists.{every}
-use Rattle.opcodes.proofs.TestLaws.{T_and, T_true, true≢false}
+use Rattle.opcodes.proofs.TestLaws.{t_and, t_true, true≢false}
 use Rattle.listing.proofs.LineLaws.{value_least}
 use Rattle.listing.specs.Text.{is_digit, is_hex_digit, is_decimal, digit_value, value_of}
-use Rattle.listing.specs.Listing.{separator, hex_word}
-use Rattle.check_listing.specs.Contracts.{as_u32, decimal_of, leading_zero, number_of}
+use Rattle.listing.specs.Listing.{hex_word}
+use Rattle.check_listing.specs.Terms.{as_u32, decimal_of, leading_zero, number_of}
 use Rattle.check_listing.specs.declared.numbers.Number.TheVariants.{Value, Malformed}
 use Rattle.check_listing.proofs.ScanLaws.{next}
-
--- ---- a byte
-
-pub digit_low : (c : ℕ) → c < 48 → false ≡ is_digit c
-unfolding is_digit
-digit_low c h = rw (lt-leb 48 c h) refl
-
-pub digit_rest : (c : ℕ) → 48 ≤ c → leb c 57 ≡ is_digit c
-unfolding is_digit
-digit_rest c h = rw (le-leb 48 c h) refl
-
-pub digit_least : (c : ℕ) → is_digit c ≡ true → 48 ≤ c
-unfolding is_digit
-digit_least c e = go (leb 48 c) refl e
-  where
-    go : (b : Bool) → leb 48 c ≡ b → b && leb c 57 ≡ true → 48 ≤ c
-    go true h e = leb-true 48 c h
-    go false h e = absurd (subst⁻¹ T e tt)
-
-pub digit_worth : (c : ℕ) → is_digit c ≡ true → c - 48 ≡ digit_value c
-unfolding digit_value
-digit_worth c e = rw e refl
-
-pub letter_worth : (c : ℕ) → is_digit c ≡ false → c - 87 ≡ digit_value c
-unfolding digit_value
-letter_worth c e = rw e refl
-
-pub hex_digit : (c : ℕ) → is_digit c ≡ true → true ≡ is_hex_digit c
-unfolding is_hex_digit
-hex_digit c e = rw e refl
-
-pub hex_low : (c : ℕ) → is_digit c ≡ false → c < 97 → false ≡ is_hex_digit c
-unfolding is_hex_digit
-hex_low c e h = rw (e, lt-leb 97 c h) refl
-
-pub hex_rest : (c : ℕ) → is_digit c ≡ false → 97 ≤ c → leb c 102 ≡ is_hex_digit c
-unfolding is_hex_digit
-hex_rest c e h = rw (e, le-leb 97 c h) refl
-
--- ---- what comes after a number
-
-pub separator_last : (left : ℕ) → left ≡ 0 → 10 ≡ separator left
-unfolding separator
-separator_last left e = rw e refl
-
-pub separator_more : (left : ℕ) → (left ≡ 0 → ⊥) → 32 ≡ separator left
-unfolding separator
-separator_more zero h = absurd (h refl)
-separator_more (suc left) h = refl
 
 -- ---- the value of digits
 
@@ -98,15 +49,12 @@ value_grows : (base n : ℕ) (ds : List ℕ) → 1 ≤ base → n ≤ foldl (wor
 value_grows base n ds h = le_trans (le-mul_of_pos_right n (one-le-pow (length ds) base h)) (value_least base n ds)
 
 -- so that too large a value stays one
-pub value_over : (base n i : ℕ) (ds : List ℕ) → 1 ≤ base → 2 ^ 32 ≤ n → value_of base ds ≡ value_from base n (drop i ds) → number_of Malformed ≡ as_u32 (value_of base ds)
+pub too_large : (base n d i : ℕ) (ds : List ℕ) → value_of base ds ≡ value_from base n (drop i ds) → d ≡ digit_value (get_or ds i 0) → i < length ds → 1 ≤ base → 0xffff_ffff < n * base + d → number_of Malformed ≡ as_u32 (value_of base ds)
 unfolding value_from as_u32 number_of
-value_over base n i ds h k inv =
-    let large : 2 ^ 32 ≤ value_of base ds = subst⁻¹ (λ (v : ℕ). 2 ^ 32 ≤ v) inv (le_trans k (value_grows base n (drop i ds) h)) in
+too_large base n d i ds inv e inside h k =
+    let from : value_of base ds ≡ value_from base (n * base + d) (drop (i + 1) ds) = value_next base n d i ds inside e inv in
+    let large : 2 ^ 32 ≤ value_of base ds = subst⁻¹ (λ (v : ℕ). 2 ^ 32 ≤ v) from (le_trans k (value_grows base (n * base + d) (drop (i + 1) ds) h)) in
     rw (le-ltb (value_of base ds) (2 ^ 32) large) refl
-
--- one more digit keeps a u32 within a u64
-pub product_bound : (n base : ℕ) → n < 2 ^ 32 → base ≤ 16 → n * base ≤ 2 ^ 36
-product_bound n base h k = mul-le-mul (le_of_lt h) k
 
 -- ---- a word
 
@@ -139,14 +87,14 @@ unfolding is_hex_digit is_digit digit_value
 hex_worth c t = go (leb 48 c && leb c 57) refl t
   where
     go : (b : Bool) → leb 48 c && leb c 57 ≡ b → T (b || leb 97 c && leb c 102) → cond b (c - 48) (c - 87) ≤ 15
-    go true e u = let below = leb-true c 57 (T_true _ (T_and (leb 48 c) (leb c 57) (subst⁻¹ T e tt)).1) in omega arith
-    go false e u = let below = leb-true c 102 (T_true _ (T_and (leb 97 c) (leb c 102) u).1) in omega arith
+    go true e u = let below = leb-true c 57 (t_true _ (t_and (leb 48 c) (leb c 57) (subst⁻¹ T e tt)).1) in omega arith
+    go false e u = let below = leb-true c 102 (t_true _ (t_and (leb 97 c) (leb c 102) u).1) in omega arith
 
 -- and each makes a value at most 16 times as large
 hex_bound : (n : ℕ) (ds : List ℕ) → T (every is_hex_digit ds) → suc (foldl (worth 16) n ds) ≤ suc n * 16 ^ length ds
 hex_bound n [] t = omega arith
 hex_bound n (d ∷ ds) t =
-    let both = T_and (is_hex_digit d) (every is_hex_digit ds) t in
+    let both = t_and (is_hex_digit d) (every is_hex_digit ds) t in
     let digit = hex_worth d both.0 in
     let more : suc (n * 16 + digit_value d) * 16 ^ length ds ≤ suc n * 16 * 16 ^ length ds = mul-le-mul_right (16 ^ length ds) (omega arith) in
     le_trans (hex_bound (n * 16 + digit_value d) ds both.1) (rw (pow-succ' 16 (length ds), ← mul_assoc (suc n) 16 (16 ^ length ds)) more)
@@ -167,12 +115,12 @@ decimal_empty ds e = rw e refl
 pub decimal_zero : (ds : List ℕ) → leading_zero ds ≡ true → number_of Malformed ≡ decimal_of ds
 unfolding decimal_of is_decimal number_of leading_zero
 decimal_zero ds e =
-    let both = T_and (leb 2 (length ds)) (eqb (get_or ds 0 0) 48) (subst⁻¹ T e tt) in
-    let long = leb-true 2 (length ds) (T_true _ both.0) in
-    rw (ne_eqb (length ds) 1 (λ one. not-suc-le-zero (subst (λ (n : ℕ). 1 ≤ n - 1) one (omega arith))), T_true (eqb (get_or ds 0 0) 48) both.1, and_middle (ltb 0 (length ds)) (ltb (value_of 10 ds) (2 ^ 32))) refl
+    let both = t_and (leb 2 (length ds)) (eqb (get_or ds 0 0) 48) (subst⁻¹ T e tt) in
+    let long = leb-true 2 (length ds) (t_true _ both.0) in
+    rw (ne_eqb (length ds) 1 (λ one. not-suc-le-zero (subst (λ (n : ℕ). 1 ≤ n - 1) one (omega arith))), t_true (eqb (get_or ds 0 0) 48) both.1, and_middle (ltb 0 (length ds)) (ltb (value_of 10 ds) (2 ^ 32))) refl
 
 -- no leading zero: one digit, or the first is not 0
-no_zero : (n : ℕ) (zero_first : Bool) → 0 < n → leb 2 n && zero_first ≡ false → eqb n 1 || not zero_first ≡ true
+no_zero : (n : ℕ) (zero-first : Bool) → 0 < n → leb 2 n && zero-first ≡ false → eqb n 1 || not zero-first ≡ true
 no_zero n t h e = go (leb 2 n) refl t e
   where
     or-true : (a : Bool) → a || true ≡ true
@@ -189,11 +137,3 @@ unfolding decimal_of is_decimal as_u32 leading_zero
 decimal_value ds x h e value =
     let some-digit : 0 < length ds = pos_of_ne-zero h in
     value ∙ rw (lt-ltb 0 (length ds) some-digit, no_zero (length ds) (eqb (get_or ds 0 0) 48) some-digit e) refl
-
-pub zero_short : (ds : List ℕ) → length ds < 2 → false ≡ leading_zero ds
-unfolding leading_zero
-zero_short ds h = rw (lt-leb 2 (length ds) h) refl
-
-pub zero_first : (ds : List ℕ) → 2 ≤ length ds → eqb (get_or ds 0 0) 48 ≡ leading_zero ds
-unfolding leading_zero
-zero_first ds h = rw (le-leb 2 (length ds) h) refl

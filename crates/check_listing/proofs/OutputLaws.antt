@@ -14,7 +14,7 @@ use Rattle.listing.specs.Listing.{Read, done, read_listing, stopped}
 use Rattle.listing.specs.Longest.{input_bytes}
 use Rattle.listing.specs.Packcheck.{answer_text, diagnostic_room, output_text, packcheck, refusal_text, result_text, role_room}
 use Rattle.listing.proofs.PrefixLaws.{long_input}
-use Rattle.check_listing.specs.Contracts.{Prints, output_bytes}
+use Rattle.check_listing.specs.Terms.{Prints, output_bytes}
 use Rattle.check_listing.proofs.AnswerLaws.{accepted_count}
 use Rattle.check_listing.proofs.PrintLaws.{refusal_end, result_end}
 
@@ -36,11 +36,11 @@ output_fits (done i) = go (check_answer i role_room diagnostic_room) refl
         omega arith
 
 -- what was printed is the output, and so it is of every longer input
-pub written : {old new input t : List ℕ} {r : ℕ} → length old ≡ output_bytes → output_text (read_listing input) ≡ t → Prints old 0 t new r → (new ≡ overwrite old 0 (packcheck input)) × ((r ≡ length (packcheck input)) × ((r ≤ length new) × ((whole : List ℕ) → take input_bytes whole ≡ input → packcheck whole ≡ packcheck input)))
+pub written : {old new input t : List ℕ} {r : ℕ} → length old ≡ output_bytes → output_text (read_listing input) ≡ t → Prints old 0 t new r → (new ≡ overwrite old 0 (packcheck input)) × (r ≡ length (packcheck input)) × (r ≤ length new) × ((whole : List ℕ) → take input_bytes whole ≡ input → packcheck whole ≡ packcheck input)
 unfolding packcheck
 written {old} {new} {input} room e p =
     let whole = p.bytes ∙ ap (overwrite old 0) (sym e) in
     let size = p.ends ∙ zero-add _ ∙ ap length (sym e) in
     let fits = output_fits (read_listing input) in
     let kept = ap length whole ∙ length_overwrite old 0 (packcheck input) in
-    (whole, (size, (omega arith, λ w front. sym (long_input w) ∙ ap packcheck front)))
+    (whole, size, omega arith, λ w front. sym (long_input w) ∙ ap packcheck front)

@@ -15,13 +15,13 @@ use Rattle.opcodes.specs.Bytes.{overwrite, u32_at}
 use Rattle.opcodes.specs.Lists.{tabulate, every}
 use Rattle.opcodes.proofs.ByteLaws.{length_overwrite, overwrite_none, overwrite_next, sets_overwrite}
 use Rattle.opcodes.proofs.ListLaws.{get_d_tabulate, length_tabulate, tabulate_next, flat_map_append}
-use Rattle.opcodes.proofs.TestLaws.{T_and, by_cond}
+use Rattle.opcodes.proofs.TestLaws.{t_and, by_cond}
 use Rattle.chunk.specs.Refusals.{Refused}
 use Rattle.verdict.specs.Check.{Checked}
 use Rattle.verdict.specs.Walk.{Verdict, ValidForParser, Incomplete, Invalid, RowDiagnostic}
 use Rattle.listing.specs.Text.{newline, space, text, line, digits, decimal, integer}
 use Rattle.listing.specs.Packcheck.{code_names, code_name, verdict_name, refusal_text, diagnostic_text, result_text}
-use Rattle.check_listing.specs.Contracts.{Prints, signed, diagnostic_in, diagnostics_in, longest_diagnostic, longest_answer}
+use Rattle.check_listing.specs.Terms.{Prints, signed, diagnostic_in, diagnostics_in, longest_diagnostic, longest_answer}
 
 -- ---- one after the other
 
@@ -137,13 +137,8 @@ name_lengths = map (λ s. length (text s)) code_names
 -- each of a list passes a test, and so does what stands past its end
 every_get_d : {A : Type 0} (f : A → Bool) (xs : List A) (k : ℕ) (d : A) → T (f d) → T (every f xs) → T (f (get_or xs k d))
 every_get_d f [] k d e t = e
-every_get_d f (x ∷ xs) zero d e t = (T_and (f x) (every f xs) t).0
-every_get_d f (x ∷ xs) (suc k) d e t = every_get_d f xs k d e (T_and (f x) (every f xs) t).1
-
--- none is longer than 16
-pub name_length : (k : ℕ) → get_or name_lengths k 0 ≤ 16
-unfolding code_names text
-name_length k = leb→le _ 16 (every_get_d (λ n. leb n 16) name_lengths k 0 tt tt)
+every_get_d f (x ∷ xs) zero d e t = (t_and (f x) (every f xs) t).0
+every_get_d f (x ∷ xs) (suc k) d e t = every_get_d f xs k d e (t_and (f x) (every f xs) t).1
 
 -- nor is that of any code
 pub length_name : (code : ℕ) → length (text (code_name code)) ≤ 16

@@ -4,31 +4,21 @@ use Prim.Native.String.{String}
 use native.Mathlib.Omega.{arith}
 use native.Mathlib.Nat.{add-zero, zero-add}
 use mathlib.Core.Path.{◌≡◌, refl, sym, ap, ap₂, ◌∙◌, subst}
-use mathlib.Core.Bool.{Bool, true, false, cond, not}
+use mathlib.Core.Bool.{Bool, true, false, cond}
 use mathlib.Core.List.{List, [], ◌∷◌, ◌++◌, append_assoc, append-nil, flatten, flat_map}
-use mathlib.Core.Option.{Option, none, some}
+use mathlib.Core.Option.{none, some}
 use lib.ListN.{length, length-append, get_or, take, drop}
 use lib.Seq.{drop-drop, get_or-take, length-take-le, take_all, take_at}
 use Rattle.opcodes.specs.Bytes.{overwrite, u32_bytes, u32_record}
 use Rattle.opcodes.proofs.ByteLaws.{length_u32_bytes, length_u32_record, overwrite_fits, u32_record_append}
-use Rattle.opcodes.proofs.TestLaws.{true≢false}
 use Rattle.verdict.specs.Image.{Image}
 use Rattle.chunk.specs.Table.{row_bytes, row_fields}
 use Rattle.listing.specs.Text.{text as text_of, lines, same, is_decimal}
 use Rattle.listing.specs.Listing.{Read, stopped, done, and_then, refused_at, read_as, read_line, named, decimals, hex_word, read_rows, read_words, read_listing, max_listing_rows, max_listing_words}
 use Rattle.listing.proofs.PrefixLaws.{and_then_same}
-use Rattle.check_listing.specs.Contracts.{HeadFits, LineFits, ListingFits, RowsFit, WordsFit, line_from, line_length, number_of, numbers_of, read_body, read_code, unread}
+use Rattle.check_listing.specs.Terms.{line_from, line_length, number_of, numbers_of, read_body, read_code, unread}
 use Rattle.check_listing.specs.declared.numbers.Number.TheVariants.{Value, Malformed}
-use Rattle.check_listing.specs.declared.reader.Line.{Line}
 use Rattle.check_listing.specs.declared.reader.Line.TheVariants.{Ends, Other}
-use Rattle.check_listing.specs.declared.reader.Head.{Head}
-use Rattle.check_listing.specs.declared.reader.Head.TheVariants as head
-use Rattle.check_listing.specs.declared.reader.Listing.{Listing}
-use Rattle.check_listing.specs.declared.reader.Listing.TheVariants as listing
-use Rattle.check_listing.specs.declared.reader.Rows.{Rows}
-use Rattle.check_listing.specs.declared.reader.Rows.TheVariants as rows
-use Rattle.check_listing.specs.declared.reader.Words.{Words}
-use Rattle.check_listing.specs.declared.reader.Words.TheVariants as words
 use Rattle.check_listing.specs.declared.reader.Unread.TheVariants.{MalformedLine, ListingTooLong}
 use Rattle.check_listing.proofs.LinesLaws.{first_line, later_lines, line_form, line_read, no_lines}
 
@@ -259,38 +249,6 @@ module _ (text : List ℕ) (at : ℕ) (s : String) (n : ℕ) (empty : named s []
       go : (b : Bool) → Ends end ≡ cond b (Ends (at + line_length (drop at text))) Other → (end ≡ at + line_length (drop at text)) × (read_as n 1 (cond b (some first) none) ≡ done first)
       go true e = (cc, refl)
       go false e = (cc, cc)
-
--- a line that ends within the text
-pub ends_fit : (long : ℕ) (r : Line) (at : ℕ) → r ≡ Ends at → LineFits long r → at ≤ long
-unfolding LineFits
-ends_fit long r at e fits = subst (LineFits long) e fits
-
--- the rows start within it
-pub head_fits : (long : ℕ) (r : Head) (warnings errors at : ℕ) → r ≡ head.Read warnings errors at → HeadFits long r → at ≤ long
-unfolding HeadFits
-head_fits long r warnings errors at e fits = subst (HeadFits long) e fits
-
--- rows and words that were read are within their limits
-pub rows_fit : (long : ℕ) (r : Rows) (n at : ℕ) → r ≡ rows.Read n at → RowsFit long r → (n ≤ max_listing_rows) × (at ≤ long)
-unfolding RowsFit
-rows_fit long r n at e fits = subst (RowsFit long) e fits
-
-pub words_fit : (r : Words) (n : ℕ) → r ≡ words.Read n → WordsFit r → n ≤ max_listing_words
-unfolding WordsFit
-words_fit r n e fits = subst WordsFit e fits
-
-pub listing_fits : (r : Listing) (n m warnings errors : ℕ) → r ≡ listing.Read n m warnings errors → ListingFits r → (n ≤ max_listing_rows) × (m ≤ max_listing_words)
-unfolding ListingFits
-listing_fits r n m warnings errors e fits = subst ListingFits e fits
-
--- what was parsed of a line of numbers
-pub parsed_false : (b : Bool) (ns : List ℕ) (o : Option (List ℕ)) → not b ≡ true → numbers_of b ns ≡ o → numbers_of false ns ≡ o
-parsed_false true ns o e value = true≢false (sym e)
-parsed_false false ns o e value = value
-
-pub parsed_true : (b : Bool) (ns : List ℕ) (o : Option (List ℕ)) → not b ≡ false → numbers_of b ns ≡ o → numbers_of true ns ≡ o
-parsed_true true ns o e value = value
-parsed_true false ns o e value = true≢false e
 
 -- the first line
 pub first_other : (text : List ℕ) → Other ≡ line_from text 0 (text_of incoming_names) → read_listing text ≡ unread (MalformedLine 1)

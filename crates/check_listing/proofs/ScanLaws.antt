@@ -1,5 +1,5 @@
--- A text, byte by byte from an index on: its first line, the bytes that pass a test, and the bytes of two. Assumes nothing.
-use Prim.Native.Nat.{ℕ, suc, ◌+◌, ◌-◌, ◌<◌, ◌≤◌}
+-- A text, byte by byte from an index on: its first line, and the bytes of two texts. Assumes nothing.
+use Prim.Native.Nat.{ℕ, suc, ◌+◌, ◌<◌, ◌≤◌}
 use native.Mathlib.Numerals.{add-one}
 use mathlib.Core.Path.{◌≡◌, refl, sym, ap, ◌∙◌}
 use mathlib.Core.Bool.{Bool, true, false, ◌&&◌}
@@ -8,9 +8,8 @@ use lib.Dec.{eqb}
 use lib.ListN.{length, get_or, drop, drop_of_length-le}
 use lib.Seq.{drop-cons}
 use borrow.Author.Tests.{eq-eqb, ne_eqb}
-use Rattle.opcodes.specs.Lists.{every, take_while}
 use Rattle.listing.specs.Text.{newline, same}
-use Rattle.check_listing.specs.Contracts.{line_length}
+use Rattle.check_listing.specs.Terms.{line_length}
 
 -- the rest of a list that has a next element
 pub next : (l : List ℕ) (i : ℕ) → i < length l → drop i l ≡ get_or l i 0 ∷ drop (i + 1) l
@@ -29,27 +28,6 @@ line_goes_on l i h e = rw (next l i h, ne_eqb (get_or l i 0) newline e) refl
 pub line_past : (l : List ℕ) (i : ℕ) → length l ≤ i → line_length (drop i l) ≡ 0
 unfolding line_length
 line_past l i h = rw (drop_of_length-le l h) refl
-
--- ---- a test
-
-module _ (f : ℕ → Bool) (l : List ℕ) (i : ℕ) where
-  pub while_stops : i < length l → f (get_or l i 0) ≡ false → length (take_while f (drop i l)) ≡ 0
-  while_stops h e = rw (next l i h, e) refl
-
-  pub while_goes_on : i < length l → f (get_or l i 0) ≡ true → length (take_while f (drop i l)) ≡ suc (length (take_while f (drop (i + 1) l)))
-  while_goes_on h e = rw (next l i h, e) refl
-
-  pub while_past : length l ≤ i → length (take_while f (drop i l)) ≡ 0
-  while_past h = rw (drop_of_length-le l h) refl
-
-  pub every_fails : i < length l → f (get_or l i 0) ≡ false → every f (drop i l) ≡ false
-  every_fails h e = rw (next l i h, e) refl
-
-  pub every_goes_on : i < length l → f (get_or l i 0) ≡ true → every f (drop i l) ≡ every f (drop (i + 1) l)
-  every_goes_on h e = rw (next l i h, e) refl
-
-  pub every_past : length l ≤ i → every f (drop i l) ≡ true
-  every_past h = rw (drop_of_length-le l h) refl
 
 -- ---- two texts
 

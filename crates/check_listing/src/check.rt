@@ -1,11 +1,11 @@
 // The check of a listing: all that packcheck does but reading its input and writing its output.
 ghost use Rattle.std.specs.Prelude.{◌≡◌, ℕ, ◌≤◌, List, length, take};
-ghost use Rattle.check_listing.specs.Contracts.{Prints, output_bytes, unread as refused};
+ghost use Rattle.check_listing.specs.Terms.{Prints, output_bytes, unread as refused};
 ghost use Rattle.listing.specs.Listing.{done};
 ghost use Rattle.listing.specs.Longest.{input_bytes};
 ghost use Rattle.listing.specs.Packcheck.{output_text, packcheck};
 ghost use Rattle.opcodes.specs.Bytes.{overwrite};
-ghost use Rattle.validator.specs.Contracts.{image_of};
+ghost use Rattle.validator.specs.Terms.{image_of};
 
 use crate::reader::{Listing, Unread, read_listing};
 use crate::report::{print_refusal, print_result, refusal_figure, refusal_number};
@@ -26,11 +26,12 @@ const DIAGNOSTICS_LEN: usize = 32768;
 
 // Writes to the front of a buffer what packcheck writes for an input, and answers how many bytes that are. It writes the same for every longer
 // input of which these are the first 65,536 bytes.
+#[tactic(auto, unfolding(crate::specs::Terms::ListingFits))]
 pub fn check_listing(input: &[u8], output: &mut [u8; OUTPUT_LEN]) -> usize
-    ensures output_after { output.new ≡ overwrite output.old 0 (packcheck input.now) }
-    ensures value { result ≡ length (packcheck input.now) }
-    ensures upper_bound { result ≤ length output.new }
-    ensures by_index { (whole : List ℕ) → take input_bytes whole ≡ input.now → packcheck whole ≡ packcheck input.now }
+    ensures output_written { output.new ≡ overwrite output.old 0 (packcheck input.now) }
+    ensures output_length { result ≡ length (packcheck input.now) }
+    ensures within_output { result ≤ length output.new }
+    ensures front_decides { (whole : List ℕ) → take input_bytes whole ≡ input.now → packcheck whole ≡ packcheck input.now }
 {
     let mut protos = [0u8; PROTOS_LEN];
     let mut words = [0u8; WORDS_LEN];

@@ -1,13 +1,13 @@
 // Lines of a text.
 ghost use Rattle.std.specs.Prelude.{◌≡◌, ◌+◌, ◌≤◌, drop, length};
-ghost use Rattle.check_listing.specs.Contracts.{line_length};
+ghost use Rattle.check_listing.specs.Terms.{line_length};
 ghost use Rattle.listing.specs.Text.{same as sameText};
 
 // Where the line that starts at `at` ends: past its newline, or at the end of the text where it has none.
 pub fn line_end(text: &[u8], at: usize) -> usize
     requires { at ≤ length text.now }
     ensures value { result ≡ at + line_length (drop at text.now) }
-    ensures upper_bound { result ≤ length text.now }
+    ensures within_text { result ≤ length text.now }
 {
     let mut i = at;
     while i < text.len() {

@@ -1,12 +1,12 @@
 // Numbers in a line: decimals, and words of hexadecimal digits.
 ghost use Rattle.std.specs.Prelude.{◌≡◌, ◌+◌, ◌<◌, ◌≤◌, drop, get_or, length, take};
-ghost use Rattle.check_listing.specs.Contracts.{as_u32, decimal_of, leading_zero, number_of, numbers_of};
+ghost use Rattle.check_listing.specs.Terms.{as_u32, decimal_of, leading_zero, number_of, numbers_of};
 ghost use Rattle.listing.specs.Listing.{decimals, hex_word, separator};
 ghost use Rattle.listing.specs.Text.{digit_value, is_digit, is_hex_digit, value_of};
 ghost use Rattle.opcodes.specs.Lists.{every, take_while};
 
 // What digits are worth, where that is a u32.
-#[derive(Drop)]
+#[derive(Clone, Copy)]
 pub enum Number {
     Value(u32),
     Malformed,
@@ -63,6 +63,7 @@ fn decimal_value(digits: &[u8]) -> Number
     digits_value(digits, 10)
 }
 
+#[tactic(auto, unfolding(crate::specs::Terms::leading_zero))]
 fn has_leading_zero(digits: &[u8]) -> bool
     ensures { result ≡ leading_zero digits.now }
 {
@@ -76,7 +77,7 @@ fn has_leading_zero(digits: &[u8]) -> bool
 fn digits_end(line: &[u8], at: usize) -> usize
     requires { at ≤ length line.now }
     ensures value { result ≡ at + length (take_while is_digit (drop at line.now)) }
-    ensures upper_bound { result ≤ length line.now }
+    ensures within_line { result ≤ length line.now }
 {
     let mut i = at;
     while i < line.len() {
@@ -89,9 +90,10 @@ fn digits_end(line: &[u8], at: usize) -> usize
 }
 
 // The value of digits at a base.
+#[tactic(auto, using(crate::proofs::NumberLaws::too_large))]
 fn digits_value(digits: &[u8], base: u64) -> Number
-    requires le_base { 1 ≤ base }
-    requires base_bound { base ≤ 16 }
+    requires base_not_zero { 1 ≤ base }
+    requires base_at_most_16 { base ≤ 16 }
     ensures { number_of result ≡ as_u32 (value_of base digits.now) }
 {
     let mut value: u64 = 0;
@@ -119,9 +121,10 @@ fn are_hex_digits(digits: &[u8]) -> bool
     true
 }
 
+#[tactic(auto, unfolding(listing::specs::Text::is_digit, listing::specs::Text::digit_value))]
 fn digit_value(c: u8) -> u64
     ensures value { result ≡ digit_value c }
-    ensures upper_bound { result < 256 }
+    ensures below_256 { result < 256 }
 {
     if is_digit(c) {
         return (c - 48) as u64;
@@ -132,6 +135,7 @@ fn digit_value(c: u8) -> u64
     (c - 87) as u64
 }
 
+#[tactic(auto, unfolding(listing::specs::Text::is_digit))]
 fn is_digit(c: u8) -> bool
     ensures { result ≡ is_digit c }
 {
@@ -141,6 +145,7 @@ fn is_digit(c: u8) -> bool
     c <= 57
 }
 
+#[tactic(auto, unfolding(listing::specs::Text::is_digit, listing::specs::Text::is_hex_digit))]
 fn is_hex_digit(c: u8) -> bool
     ensures { result ≡ is_hex_digit c }
 {
@@ -154,6 +159,7 @@ fn is_hex_digit(c: u8) -> bool
 }
 
 // What comes after a number where so many are still to come.
+#[tactic(auto, unfolding(listing::specs::Listing::separator))]
 fn separator_after(left: usize) -> u8
     ensures { result ≡ separator left }
 {

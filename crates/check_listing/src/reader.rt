@@ -1,6 +1,6 @@
 // The listing reader: an image from the bytes of a listing, or refusal 9 or 10 at the first line that gives it.
 ghost use Rattle.std.specs.Prelude.{◌≡◌, ℕ, ◌+◌, ◌*◌, ◌≤◌, List, drop, length};
-ghost use Rattle.check_listing.specs.Contracts.{HeadFits, LineFits, ListingFits, RowsFit, WordsFit, head_then, line_from, listing_of, read_body, read_code, rows_then, words_then};
+ghost use Rattle.check_listing.specs.Terms.{HeadFits, LineFits, ListingFits, RowsFit, WordsFit, head_then, line_from, listing_of, read_body, read_code, rows_then, words_then};
 ghost use Rattle.listing.specs.Listing.{max_listing_rows, max_listing_words, read_listing};
 ghost use Rattle.listing.specs.Text.{lines};
 ghost use Rattle.chunk.specs.Table.{row_bytes};
@@ -16,53 +16,54 @@ pub const MAX_ROWS: usize = 64;
 pub const MAX_WORDS: usize = 2048;
 
 // Refusals 9 and 10, each with the number of its line.
-#[derive(Drop)]
+#[derive(Clone, Copy)]
 pub enum Unread {
     MalformedLine(usize),
     ListingTooLong(usize),
 }
 
 // What was read of a listing: how many rows and words, and the incoming numbers.
-#[derive(Drop)]
+#[derive(Clone, Copy)]
 pub enum Listing {
     Refused(Unread),
     Read(usize, usize, u32, u32),
 }
 
 // The incoming numbers, and where the rows start.
-#[derive(Drop)]
+#[derive(Clone, Copy)]
 pub enum Head {
     Refused(Unread),
     Read(u32, u32, usize),
 }
 
 // How many rows, and where the words start.
-#[derive(Drop)]
+#[derive(Clone, Copy)]
 pub enum Rows {
     Refused(Unread),
     Read(usize, usize),
 }
 
 // How many words.
-#[derive(Drop)]
+#[derive(Clone, Copy)]
 pub enum Words {
     Refused(Unread),
     Read(usize),
 }
 
 // Where the next line starts.
-#[derive(Drop)]
+#[derive(Clone, Copy)]
 pub enum Line {
     Ends(usize),
     Other,
 }
 
 // Reads a listing into a table and words. What these hold after a refusal is left free.
+#[tactic(auto, unfolding(crate::specs::Terms::HeadFits, crate::specs::Terms::ListingFits, crate::specs::Terms::head_then, crate::specs::Terms::listing_of))]
 pub fn read_listing(text: &[u8], protos: &mut [u8], words: &mut [u8]) -> Listing
     requires protos_len { length protos.old ≡ row_bytes * max_listing_rows }
     requires words_len { length words.old ≡ 4 * max_listing_words }
-    ensures text_value { read_listing text.now ≡ listing_of protos.new words.new result }
-    ensures listing_fits { ListingFits result }
+    ensures reading { read_listing text.now ≡ listing_of protos.new words.new result }
+    ensures within_limits { ListingFits result }
 {
     match read_head(text) {
         Head::Refused(unread) => Listing::Refused(unread),
@@ -71,9 +72,10 @@ pub fn read_listing(text: &[u8], protos: &mut [u8], words: &mut [u8]) -> Listing
 }
 
 // The first three lines.
+#[tactic(auto, unfolding(crate::specs::Terms::HeadFits, crate::specs::Terms::LineFits))]
 fn read_head(text: &[u8]) -> Head
-    ensures text_value { read_listing text.now ≡ head_then text.now result }
-    ensures head_fits { HeadFits (length text.now) result }
+    ensures reading { read_listing text.now ≡ head_then text.now result }
+    ensures within_text { HeadFits (length text.now) result }
 {
     let Line::Ends(start) = skip_line(text, 0, b"warnings errors\n") else {
         return Head::Refused(Unread::MalformedLine(1));
@@ -90,10 +92,11 @@ fn read_head(text: &[u8]) -> Head
 }
 
 // Past the line that starts at `at`, where it is this one.
+#[tactic(auto, unfolding(crate::specs::Terms::line_from, crate::specs::Terms::LineFits))]
 fn skip_line(text: &[u8], at: usize, line: &[u8]) -> Line
     requires { at ≤ length text.now }
     ensures value { result ≡ line_from text.now at line.now }
-    ensures line_fits { LineFits (length text.now) result }
+    ensures within_text { LineFits (length text.now) result }
 {
     let end = line_end(text, at);
     if same(&text[at..end], line) {
@@ -103,6 +106,7 @@ fn skip_line(text: &[u8], at: usize, line: &[u8]) -> Line
 }
 
 // The rows, and then the words.
+#[tactic(auto, unfolding(crate::specs::Terms::ListingFits, crate::specs::Terms::RowsFit, crate::specs::Terms::WordsFit, crate::specs::Terms::listing_of, crate::specs::Terms::rows_then, crate::specs::Terms::words_then))]
 fn read_body(
     text: &[u8],
     at: usize,
@@ -111,11 +115,11 @@ fn read_body(
     protos: &mut [u8],
     words: &mut [u8],
 ) -> Listing
-    requires at_in_bounds { at ≤ length text.now }
+    requires at_within_text { at ≤ length text.now }
     requires protos_len { length protos.old ≡ row_bytes * max_listing_rows }
     requires words_len { length words.old ≡ 4 * max_listing_words }
-    ensures errors_value { read_body (lines (drop at text.now)) warnings errors ≡ listing_of protos.new words.new result }
-    ensures listing_fits { ListingFits result }
+    ensures reading { read_body (lines (drop at text.now)) warnings errors ≡ listing_of protos.new words.new result }
+    ensures within_limits { ListingFits result }
 {
     match read_rows(text, at, protos) {
         Rows::Refused(unread) => Listing::Refused(unread),
@@ -129,11 +133,12 @@ fn read_body(
 }
 
 // The rows, up to the line "word".
+#[tactic(auto, unfolding(crate::specs::Terms::RowsFit))]
 fn read_rows(text: &[u8], start: usize, protos: &mut [u8]) -> Rows
-    requires start_in_bounds { start ≤ length text.now }
+    requires start_within_text { start ≤ length text.now }
     requires protos_len { length protos.old ≡ row_bytes * max_listing_rows }
-    ensures by_index { (warnings errors : ℕ) → read_body (lines (drop start text.now)) warnings errors ≡ rows_then text.now warnings errors protos.new result }
-    ensures rows_fit { RowsFit (length text.now) result }
+    ensures reading { (warnings errors : ℕ) → read_body (lines (drop start text.now)) warnings errors ≡ rows_then text.now warnings errors protos.new result }
+    ensures within_limits { RowsFit (length text.now) result }
 {
     let mut at = start;
     let mut rows = 0;
@@ -157,12 +162,13 @@ fn read_rows(text: &[u8], start: usize, protos: &mut [u8]) -> Rows
 }
 
 // The words, up to the end, from the line of this number on.
+#[tactic(auto, unfolding(crate::specs::Terms::WordsFit))]
 fn read_words(text: &[u8], start: usize, line: usize, words: &mut [u8]) -> Words
-    requires start_in_bounds { start ≤ length text.now }
-    requires line_bound { line ≤ 5 + max_listing_rows }
+    requires start_within_text { start ≤ length text.now }
+    requires first_word_line { line ≤ 5 + max_listing_rows }
     requires words_len { length words.old ≡ 4 * max_listing_words }
-    ensures by_index { (table : List ℕ) (warnings errors : ℕ) → read_code line (lines (drop start text.now)) table warnings errors ≡ words_then table warnings errors words.new result }
-    ensures words_fit { WordsFit result }
+    ensures reading { (table : List ℕ) (warnings errors : ℕ) → read_code line (lines (drop start text.now)) table warnings errors ≡ words_then table warnings errors words.new result }
+    ensures within_limits { WordsFit result }
 {
     let mut at = start;
     let mut count = 0;

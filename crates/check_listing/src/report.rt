@@ -1,11 +1,11 @@
 // What packcheck writes: a refusal as the only line, or the diagnostics and the verdict.
 ghost use Rattle.std.specs.Prelude.{◌≡◌, ◌+◌, ◌*◌, ◌≤◌, length};
 ghost use mathlib.Core.List.{[], ◌∷◌, ◌++◌, flat_map};
-ghost use Rattle.check_listing.specs.Contracts.{Prints, diagnostic_in, diagnostics_in, longest_answer, longest_diagnostic};
+ghost use Rattle.check_listing.specs.Terms.{Prints, diagnostic_in, diagnostics_in, longest_answer, longest_diagnostic};
 ghost use Rattle.listing.specs.Packcheck.{diagnostic_text, refusal_text, result_text, verdict_name};
 ghost use Rattle.listing.specs.Text.{text as text_of};
-ghost use Rattle.roles.specs.Contracts.{refused_of};
-ghost use Rattle.validator.specs.Contracts.{verdict_in};
+ghost use Rattle.roles.specs.Terms.{refused_of};
+ghost use Rattle.validator.specs.Terms.{verdict_in};
 
 use crate::printer::{print_code, print_number, print_signed, print_text};
 use opcodes::bytes::read_u32;
@@ -76,6 +76,7 @@ fn print_verdict(out: &mut [u8], at: usize, verdict: Verdict) -> usize
 }
 
 // Document 01's number of a refusal.
+#[tactic(auto, unfolding(roles::specs::Terms::refused_of))]
 pub fn refusal_number(refusal: Refusal) -> usize
     ensures { result ≡ (refused_of refusal).number }
 {
@@ -92,6 +93,7 @@ pub fn refusal_number(refusal: Refusal) -> usize
 }
 
 // Its last figure: the row, the records needed, or 0.
+#[tactic(auto, unfolding(roles::specs::Terms::refused_of))]
 pub fn refusal_figure(refusal: Refusal) -> usize
     ensures { result ≡ (refused_of refusal).figure }
 {

@@ -12,7 +12,7 @@ use Rattle.opcodes.specs.Lists.{All, all_nil, all_cons}
 use Rattle.chunk.specs.Table.{Row, row_bytes, rows}
 use Rattle.chunk.specs.Refusals.{Refused, refuse, refuse_if, or_else, depth_fits, bad_depth, fields_fit, bad_field, word_total, image_refusal, roles_refusal}
 use Rattle.chunk.specs.Roles.{role_bytes}
-use Rattle.opcodes.proofs.TestLaws.{T_and, or-false}
+use Rattle.opcodes.proofs.TestLaws.{t_and, or-false}
 
 -- none of two, and none of one
 pub or_else_none : (a b : Option Refused) → or_else a b ≡ none → (a ≡ none) × (b ≡ none)
@@ -30,7 +30,7 @@ refuse_unless : (b : Bool) (number figure : ℕ) → refuse_if (not b) number fi
 refuse_unless b number figure e = subst T (sym (not-false b (refuse_if_none (not b) number figure e))) tt
 
 three : (a b c : Bool) → T (a && b && c) → T a × T b × T c
-three a b c t = let ab = T_and (a && b) c t in let p = T_and a b ab.0 in (p.0, p.1, ab.1)
+three a b c t = let ab = t_and (a && b) c t in let p = t_and a b ab.0 in (p.0, p.1, ab.1)
 
 -- ---- 4: a row's depth, and that of the rows after it
 

@@ -14,7 +14,7 @@ use Rattle.opcodes.specs.Words.{is, CLOSURE, SETLIST}
 use Rattle.chunk.specs.Table.{Proto}
 use Rattle.chunk.specs.Roles.{Role, Instruction, ClosureBinding, SetlistExtra, is_executable, executable_at, Executable, binding_count, has_extra, claims, roles_from, roles, role_at, word_at, owned, existing, companions}
 use Rattle.opcodes.proofs.AllLaws.{all_append, all_at}
-use Rattle.opcodes.proofs.TestLaws.{T_and, T_true, T_false, and_t, by_cond, disjoint, is_not}
+use Rattle.opcodes.proofs.TestLaws.{t_and, t_true, t_false, and_t, by_cond, disjoint, is_not}
 
 -- ---- an executable word
 
@@ -28,11 +28,11 @@ role_executable e = subst (λ (r : Role). T (is_executable r)) (sym e) tt
 
 pub exists : (p : Proto) (pc : ℕ) → Executable p pc → pc < length p.code
 unfolding executable_at
-exists p pc x = ltb→lt pc (length p.code) (T_and (ltb pc (length p.code)) (is_executable (role_at p pc)) x).0
+exists p pc x = ltb→lt pc (length p.code) (t_and (ltb pc (length p.code)) (is_executable (role_at p pc)) x).0
 
 pub role : (p : Proto) (pc : ℕ) → Executable p pc → T (is_executable (role_at p pc))
 unfolding executable_at
-role p pc x = (T_and (ltb pc (length p.code)) (is_executable (role_at p pc)) x).1
+role p pc x = (t_and (ltb pc (length p.code)) (is_executable (role_at p pc)) x).1
 
 pub executable : (p : Proto) (pc : ℕ) → pc < length p.code → T (is_executable (role_at p pc)) → Executable p pc
 unfolding executable_at
@@ -99,7 +99,7 @@ first_executable p = role_executable (past_claimed p 0 [] p.code)
 -- an executable word owns what it claims
 pub owned_count : (p : Proto) (pc : ℕ) → Executable p pc → owned p pc ≡ length (claims p pc (word_at p pc))
 unfolding owned
-owned_count p pc x = rw (T_true (executable_at p pc) x)
+owned_count p pc x = rw (t_true (executable_at p pc) x)
 
 -- so is the word after an executable one and those that it owns
 pub next_executable : (p : Proto) (pc : ℕ) → Executable p pc → T (is_executable (role_at p (pc + 1 + owned p pc)))
@@ -132,7 +132,7 @@ unfolding executable_at companions existing
 companion_unexecutable p pc j x h =
     let cs = claims p pc (word_at p pc) in
     let mine = all_at j Instruction (omega (arith, owned_count p pc x)) (claims_companions p pc (word_at p pc)) in
-    let no : is_executable (role_at p (pc + 1 + j)) ≡ false = ap is_executable (owned_role p pc j x h) ∙ T_false (is_executable (get_or cs j Instruction)) mine in
+    let no : is_executable (role_at p (pc + 1 + j)) ≡ false = ap is_executable (owned_role p pc j x h) ∙ t_false (is_executable (get_or cs j Instruction)) mine in
     ap (λ (b : Bool). ltb (pc + 1 + j) (length p.code) && b) no ∙ and-false (ltb (pc + 1 + j) (length p.code))
 
 -- other bits in a companion change no role: it is never read as an owner
@@ -157,4 +157,4 @@ past_claims p pc (r ∷ cl) (w ∷ ws) = ap (λ (l : List Role). r ∷ l) (past_
 -- a SETLIST is no CLOSURE
 pub no_both : {X : Type 0} (w : ℕ) → T (has_extra w) → T (is w (CLOSURE ∷ [])) → X
 unfolding has_extra
-no_both w x c = absurd (subst T (is_not w (SETLIST ∷ []) (CLOSURE ∷ []) tt (T_and (is w (SETLIST ∷ [])) _ x).0) c)
+no_both w x c = absurd (subst T (is_not w (SETLIST ∷ []) (CLOSURE ∷ []) tt (t_and (is w (SETLIST ∷ [])) _ x).0) c)

@@ -11,7 +11,7 @@ use lib.ListN.{length, drop, drop_of_length-le}
 use borrow.Author.Tests.{not-false}
 use Rattle.chunk.specs.Table.{row_bytes, field_at, row_at, rows}
 use Rattle.chunk.specs.Refusals.{refuse, refuse_if, or_else, depth_fits, bad_depth, fields_fit, bad_field}
-use Rattle.opcodes.proofs.TestLaws.{T_and}
+use Rattle.opcodes.proofs.TestLaws.{t_and}
 use Rattle.chunk.proofs.TableLaws.{length_rows, drop_rows}
 
 -- past the last row
@@ -37,7 +37,7 @@ module _ (table : List ℕ) (least most row : ℕ) (v : DepthsLeft table least m
 
     pub depth_low : not r ≡ false → field_at table row 0 ≤ 199
     unfolding depth_fits row_at
-    depth_low f = leb→le (field_at table row 0) 199 (T_and (leb least (field_at table row 0) && leb (field_at table row 0) most) (leb (field_at table row 0) 199) (subst T (sym (not-false r f) ∙ fits) tt)).1
+    depth_low f = leb→le (field_at table row 0) 199 (t_and (leb least (field_at table row 0) && leb (field_at table row 0) most) (leb (field_at table row 0) 199) (subst T (sym (not-false r f) ∙ fits) tt)).1
 
     pub depth_next : not r ≡ false → (most' : ℕ) → most' ≡ field_at table row 0 + 1 → DepthsLeft table 1 most' (row + 1)
     unfolding bad_depth or_else refuse_if row_at

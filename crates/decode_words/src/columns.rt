@@ -1,98 +1,95 @@
 // The columns of a word's line.
-use crate::names::print_name;
-use opcodes::bytes::{i32_bits, write_i32, write_record};
+use crate::names::name;
+use opcodes::bytes::{write_i32, write_record};
 use opcodes::{OpMode51, Opcode51, OpcodeField, RawInstruction51};
+use std::io;
 
-pub fn print_word(raw: u32) {
+pub fn print_word(rt: &impl Print, raw: u32) -> io::Result<()> {
     let w = RawInstruction51::decode(raw);
-    io::print_hex(1, w.raw as u64, 8);
-    print_fields(w);
-    print_constants(w);
-    print_record(w);
+    print_hex(rt, w.raw)?;
+    print_fields(rt, w)?;
+    print_constants(rt, w)?;
+    print_record(rt, w)?;
     let opcode = w.opcode;
     match opcode {
-        OpcodeField::Known(op) => print_opcode(op),
-        OpcodeField::Unknown(_) => {
-            io::write_all(1, b" - - - - - - -");
-        }
+        OpcodeField::Known(op) => print_opcode(rt, op)?,
+        OpcodeField::Unknown(_) => print!(rt; " - - - - - - -")?,
     }
-    io::write_all(1, b"\n");
+    println!(rt)
 }
 
-fn print_fields(w: RawInstruction51) {
-    print_number(w.opcode_num as u64);
-    print_number(w.a as u64);
-    print_number(w.b as u64);
-    print_number(w.c as u64);
-    print_number(w.bx as u64);
-    print_signed(w.sbx);
+fn print_hex(rt: &impl Print, raw: u32) -> io::Result<()> {
+    print!(rt; "{raw:08x}")
 }
 
-fn print_constants(w: RawInstruction51) {
-    print_flag(w.is_b_k());
-    print_number(w.b_index_k() as u64);
-    print_flag(w.is_c_k());
-    print_number(w.c_index_k() as u64);
+fn print_fields(rt: &impl Print, w: RawInstruction51) -> io::Result<()> {
+    print_number(rt, w.opcode_num as u32)?;
+    print_number(rt, w.a as u32)?;
+    print_number(rt, w.b as u32)?;
+    print_number(rt, w.c as u32)?;
+    print_number(rt, w.bx)?;
+    print_signed(rt, w.sbx)
+}
+
+fn print_constants(rt: &impl Print, w: RawInstruction51) -> io::Result<()> {
+    print_flag(rt, w.is_b_k())?;
+    print_number(rt, w.b_index_k() as u32)?;
+    print_flag(rt, w.is_c_k())?;
+    print_number(rt, w.c_index_k() as u32)
 }
 
 // Opcode, A and sBx as a record's bytes.
-fn print_record(w: RawInstruction51) {
+fn print_record(rt: &impl Print, w: RawInstruction51) -> io::Result<()> {
     let mut record = [0u8; 12];
     let fields = [w.opcode_num as u32, w.a as u32];
     write_record(&mut record, 0, &fields);
     write_i32(&mut record, 8, w.sbx);
-    io::write_all(1, b" ");
-    print_bytes(&record);
+    print!(rt; " ")?;
+    print_bytes(rt, &record)
 }
 
-fn print_bytes(bytes: &[u8]) {
-    for i in 0..bytes.len() {
-        print_byte(bytes[i]);
+fn print_bytes(rt: &impl Print, bytes: &[u8]) -> io::Result<()> {
+    for byte in bytes {
+        print_byte(rt, *byte)?;
     }
+    Ok(())
 }
 
-fn print_byte(byte: u8) {
-    io::print_hex(1, byte as u64, 2);
+fn print_byte(rt: &impl Print, byte: u8) -> io::Result<()> {
+    print!(rt; "{byte:02x}")
 }
 
-fn print_opcode(op: Opcode51) {
-    io::write_all(1, b" ");
-    print_name(op);
-    print_mode(op.mode());
-    print_flag(op.a_is_register());
-    print_flag(op.b_is_fixed_register());
-    print_flag(op.b_is_rk());
-    print_flag(op.c_is_fixed_register());
-    print_flag(op.c_is_rk());
+fn print_opcode(rt: &impl Print, op: Opcode51) -> io::Result<()> {
+    let name = name(op);
+    print!(rt; " {name}")?;
+    print_mode(rt, op.mode())?;
+    print_flag(rt, op.a_is_register())?;
+    print_flag(rt, op.b_is_fixed_register())?;
+    print_flag(rt, op.b_is_rk())?;
+    print_flag(rt, op.c_is_fixed_register())?;
+    print_flag(rt, op.c_is_rk())
 }
 
-fn print_mode(mode: OpMode51) {
+fn print_mode(rt: &impl Print, mode: OpMode51) -> io::Result<()> {
     match mode {
-        OpMode51::IABC => io::write_all(1, b" iABC"),
-        OpMode51::IABx => io::write_all(1, b" iABx"),
-        OpMode51::IAsBx => io::write_all(1, b" iAsBx"),
-    };
-}
-
-fn print_number(n: u64) {
-    io::write_all(1, b" ");
-    io::print_decimal(1, n);
-}
-
-fn print_signed(n: i32) {
-    let bits = i32_bits(n);
-    if n < 0 {
-        io::write_all(1, b" -");
-        io::print_decimal(1, (0xffff_ffff - bits) as u64 + 1);
-    } else {
-        print_number(bits as u64);
+        OpMode51::IABC => print!(rt; " iABC"),
+        OpMode51::IABx => print!(rt; " iABx"),
+        OpMode51::IAsBx => print!(rt; " iAsBx"),
     }
 }
 
-fn print_flag(flag: bool) {
+fn print_number(rt: &impl Print, n: u32) -> io::Result<()> {
+    print!(rt; " {n}")
+}
+
+fn print_signed(rt: &impl Print, n: i32) -> io::Result<()> {
+    print!(rt; " {n}")
+}
+
+fn print_flag(rt: &impl Print, flag: bool) -> io::Result<()> {
     if flag {
-        io::write_all(1, b" 1");
+        print!(rt; " 1")
     } else {
-        io::write_all(1, b" 0");
+        print!(rt; " 0")
     }
 }

@@ -2,19 +2,19 @@
 ghost use Rattle.std.specs.Prelude.{◌+◌, ◌<◌, ◌≤◌, length};
 
 // What a text holds: words of so many bytes in all, or a line that is not in form, counted from 1.
-#[derive(Drop)]
+#[derive(Clone, Copy)]
 pub enum Listing {
     Words(usize),
     Malformed(usize),
 }
 
-#[derive(Drop)]
+#[derive(Clone, Copy)]
 enum Digit {
     Value(u32),
     Other,
 }
 
-#[derive(Drop)]
+#[derive(Clone, Copy)]
 enum Word {
     Value(u32),
     Malformed,

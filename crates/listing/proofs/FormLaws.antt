@@ -11,7 +11,7 @@ use lib.Dec.{T, eqb, eqb→eq}
 use lib.ListN.{length, get_or, take, drop, length-drop}
 use Rattle.opcodes.specs.Lists.{elem, every, take_while}
 use Rattle.opcodes.proofs.ListLaws.{take_while_most}
-use Rattle.opcodes.proofs.TestLaws.{T_and}
+use Rattle.opcodes.proofs.TestLaws.{t_and}
 use Rattle.listing.specs.Text.{text, newline, same, is_digit, is_hex_digit, value_of, is_decimal}
 use Rattle.listing.specs.Listing.{named, separator, cons_number, decimals, hex_word}
 use Rattle.listing.specs.Longest.{longest_numbers, longest_word}
@@ -71,7 +71,7 @@ decimals_parts left cs ns e =
     let rest = drop (length ds) cs in
     let more = decimals left (drop 1 rest) in
     let read = cond_some (is_decimal ds && eqb (get_or rest 0 0) (separator left)) (cons_number (value_of 10 ds) more) ns e in
-    let tests = T_and (is_decimal ds) (eqb (get_or rest 0 0) (separator left)) read.0 in
+    let tests = t_and (is_decimal ds) (eqb (get_or rest 0 0) (separator left)) read.0 in
     go more refl tests.0 (eqb→eq (get_or rest 0 0) (separator left) tests.1) read.1
   where
     go : (o : Option (List ℕ)) → decimals left (drop 1 (drop (length (take_while is_digit cs)) cs)) ≡ o → T (is_decimal (take_while is_digit cs))
@@ -110,9 +110,9 @@ decimals_bounded left = record { short = decimals_short (suc left); ended = deci
 pub hex_word_bounded : Bounded longest_word hex_word
 unfolding hex_word
 hex_word_bounded =
-    record { short = λ l w e. rw (eqb→eq (length l) 9 (T_and (eqb (length l) 9) (every is_hex_digit (take 8 l)) (tests l w e).0).0) (omega arith); ended = λ l w e. get_d_elem newline l 8 0 tt (eqb→eq (get_or l 8 0) newline (tests l w e).1) }
+    record { short = λ l w e. rw (eqb→eq (length l) 9 (t_and (eqb (length l) 9) (every is_hex_digit (take 8 l)) (tests l w e).0).0) (omega arith); ended = λ l w e. get_d_elem newline l 8 0 tt (eqb→eq (get_or l 8 0) newline (tests l w e).1) }
   where
     tests : (l : List ℕ) (w : ℕ) → hex_word l ≡ some w → T (eqb (length l) 9 && every is_hex_digit (take 8 l)) × T (eqb (get_or l 8 0) newline)
     tests l w e =
-        T_and (eqb (length l) 9 && every is_hex_digit (take 8 l)) (eqb (get_or l 8 0) newline)
+        t_and (eqb (length l) 9 && every is_hex_digit (take 8 l)) (eqb (get_or l 8 0) newline)
         (cond_some (eqb (length l) 9 && every is_hex_digit (take 8 l) && eqb (get_or l 8 0) newline) (some (value_of 16 (take 8 l))) w e).0

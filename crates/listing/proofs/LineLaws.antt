@@ -9,7 +9,7 @@ use lib.Dec.{T, eqb, leb, ltb, eqb→eq, eqb_refl, T_not, ltb→lt, leb→le}
 use lib.ListN.{length, get_or, drop}
 use borrow.Author.Tests.{leb-true, leb-false, eqb-false, eq-eqb, ne_eqb}
 use Rattle.opcodes.specs.Lists.{elem, every, take_while, go_on_if}
-use Rattle.opcodes.proofs.TestLaws.{T_and, by_or, T_true, T_false, or_right}
+use Rattle.opcodes.proofs.TestLaws.{t_and, by_or, t_true, t_false, or_right}
 use Rattle.listing.specs.Text.{newline, same, join_first, lines, is_digit, digit_value, value_of, is_decimal}
 use Rattle.listing.specs.Longest.{longest_number}
 
@@ -22,7 +22,7 @@ same-≡ [] [] t = refl
 same-≡ [] (y ∷ ys) t = absurd t
 same-≡ (x ∷ xs) [] t = absurd t
 same-≡ (x ∷ xs) (y ∷ ys) t =
-    let both = T_and (eqb x y) (same xs ys) t in ap₂ (λ (c : ℕ) (l : List ℕ). c ∷ l) (eqb→eq x y both.0) (same-≡ xs ys both.1)
+    let both = t_and (eqb x y) (same xs ys) t in ap₂ (λ (c : ℕ) (l : List ℕ). c ∷ l) (eqb→eq x y both.0) (same-≡ xs ys both.1)
 
 -- a test that fails, the other way round
 pub eqb_swap : (a b : ℕ) → eqb a b ≡ false → eqb b a ≡ false
@@ -81,9 +81,9 @@ value_least base n (d ∷ ds) =
 digit_value_least : (d : ℕ) → T (is_digit d) → T (not (eqb d 48)) → 0 < digit_value d
 unfolding is_digit digit_value
 digit_value_least d t u =
-    let from : 48 ≤ d = leb→le 48 d (T_and (leb 48 d) (leb d 57) t).0 in
-    let other : d ≡ 48 → ⊥ = eqb-false d 48 (T_false (eqb d 48) u) in
-    rw (T_true (is_digit d) t) (omega arith)
+    let from : 48 ≤ d = leb→le 48 d (t_and (leb 48 d) (leb d 57) t).0 in
+    let other : d ≡ 48 → ⊥ = eqb-false d 48 (t_false (eqb d 48) u) in
+    rw (t_true (is_digit d) t) (omega arith)
 
 -- ten digits after one that has a value are too many for a u32
 few_digits : (v n value : ℕ) → 0 < v → v * 10 ^ n ≤ value → value < 2 ^ 32 → n < 10
@@ -103,9 +103,9 @@ decimal_digits (d ∷ []) t u = omega arith
 decimal_digits (d ∷ e ∷ ds) t u =
     let l = suc (suc (length ds)) in
     let value = value_of 10 (d ∷ e ∷ ds) in
-    let tests = T_and (ltb 0 l && (eqb l 1 || not (eqb d 48))) (ltb value (2 ^ 32)) u in
-    let first : T (not (eqb d 48)) = by_or (eqb l 1) (not (eqb d 48)) (λ v. absurd (two (eqb→eq l 1 v))) (λ v. v) (T_and (ltb 0 l) (eqb l 1 || not (eqb d 48)) tests.0).1 in
-    let nonzero : 0 < digit_value d = digit_value_least d (T_and (is_digit d) (every is_digit (e ∷ ds)) t).0 first in
+    let tests = t_and (ltb 0 l && (eqb l 1 || not (eqb d 48))) (ltb value (2 ^ 32)) u in
+    let first : T (not (eqb d 48)) = by_or (eqb l 1) (not (eqb d 48)) (λ v. absurd (two (eqb→eq l 1 v))) (λ v. v) (t_and (ltb 0 l) (eqb l 1 || not (eqb d 48)) tests.0).1 in
+    let nonzero : 0 < digit_value d = digit_value_least d (t_and (is_digit d) (every is_digit (e ∷ ds)) t).0 first in
     few_digits (0 * 10 + digit_value d) (suc (length ds)) value (omega arith) (value_least 10 (0 * 10 + digit_value d) (e ∷ ds)) (ltb→lt value (2 ^ 32) tests.1)
   where
     two : suc (suc (length ds)) ≡ 1 → ⊥

@@ -1,1 +1,2 @@
 // The listing that packcheck reads and the text that it writes: definitions, in specs/, and laws.
+#![tactic(auto)]

@@ -1,9 +1,11 @@
 // The C interface, as include/luad51.h declares it. A call's answer goes out as one number.
+#![tactic(auto)]
+
 ghost use Rattle.std.specs.Prelude.{◌≡◌, length};
 ghost use Rattle.luad51.specs.Results.{Guaranteed, ReadAs, Reads, ReadsCheck, check_result, count_result, packed, refused_result, verdict_number};
 ghost use Rattle.chunk.specs.Calls.{bindings_after, bindings_answer, roles_after, roles_answer};
-ghost use Rattle.roles.specs.Contracts.{answer_of, refused_of};
-ghost use Rattle.validator.specs.Contracts.{answer_of as validationOf, image_of, verdict_in};
+ghost use Rattle.roles.specs.Terms.{answer_of, refused_of};
+ghost use Rattle.validator.specs.Terms.{answer_of as validationOf, image_of, verdict_in};
 ghost use Rattle.verdict.specs.Check.{check_answer, diagnostics_after};
 
 use roles::calls::{Answer, write_bindings, write_roles};
@@ -56,6 +58,7 @@ pub extern "C" fn luad51_check(
 }
 
 // The number of a refusal, or of diagnostics with the verdict's.
+#[tactic(auto, unfolding(crate::specs::Results::check_result, crate::specs::Results::ReadsCheck, validator::specs::Terms::answer_of))]
 fn check_result(validation: Validation) -> u64
     ensures value { result ≡ check_result (validationOf validation) }
     ensures reads_check { ReadsCheck result (validationOf validation) }
@@ -66,6 +69,7 @@ fn check_result(validation: Validation) -> u64
     }
 }
 
+#[tactic(auto, unfolding(crate::specs::Results::verdict_number, validator::specs::Terms::verdict_in))]
 fn verdict_number(verdict: Verdict) -> u8
     ensures { result ≡ verdict_number (verdict_in verdict) }
 {
@@ -77,6 +81,7 @@ fn verdict_number(verdict: Verdict) -> u8
 }
 
 // The number of a refusal or of records.
+#[tactic(auto, unfolding(crate::specs::Results::count_result, crate::specs::Results::Reads, roles::specs::Terms::answer_of))]
 fn count_result(answer: Answer) -> u64
     ensures value { result ≡ count_result (answer_of answer) }
     ensures reads { Reads result (answer_of answer) }
@@ -87,6 +92,7 @@ fn count_result(answer: Answer) -> u64
     }
 }
 
+#[tactic(auto, unfolding(crate::specs::Results::refused_result, roles::specs::Terms::refused_of))]
 fn refused_result(refusal: Refusal) -> u64
     ensures value { result ≡ refused_result (refused_of refusal) }
     ensures read_as { ReadAs result (refused_of refusal).number (refused_of refusal).figure 0 }

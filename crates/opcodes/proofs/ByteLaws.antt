@@ -6,7 +6,7 @@ use native.Mathlib.Omega.{arith}
 use mathlib.Core.Path.{◌≡◌, refl, sym, ap, ap₂, ◌∙◌}
 use mathlib.Core.Bool.{Bool, true, false, cond, not}
 use mathlib.Core.List.{List, [], ◌∷◌, ◌++◌, append_assoc, append-nil, flat_map, map, map-append}
-use borrow.Author.Tests.{le-leb, lt-leb, leb-true, leb-false, not-true, not-false}
+use borrow.Author.Tests.{le-leb, lt-leb, leb-true, leb-false}
 use lib.Dec.{leb}
 use lib.ListN.{length, get_or, take, drop, drop_of_length-le, length-append, length-map, length-take, length-drop, take-append-drop}
 use lib.IntN.{ℤ}
@@ -194,19 +194,8 @@ u32s_record ns b =
 
 -- ---- the test before a write
 
--- `has_room` by a quotient and by a product
-pub room_by_quotient : (len at count : ℕ) → at ≤ len → leb count ((len - at) / 4) ≡ leb (at + 4 * count) len
-room_by_quotient len at count h = go (leb count ((len - at) / 4)) refl
-  where
-    go : (b : Bool) → leb count ((len - at) / 4) ≡ b → b ≡ leb (at + 4 * count) len
-    go true e = let k = leb-true count ((len - at) / 4) e in sym (le-leb (at + 4 * count) len (omega arith))
-    go false e = let k = leb-false count ((len - at) / 4) e in sym (lt-leb (at + 4 * count) len (omega arith))
-
--- where it fails nothing is written, and where it passes the write fits
-pub no_room : (old : List ℕ) (at count : ℕ) (new : List ℕ) (r : Bool) → length new ≡ 4 * count → r ≡ leb (at + 4 * count) (length old) → not r ≡ true → old ≡ overwrite old at new
+-- where it fails nothing is written
+pub no_room : (old : List ℕ) (at count : ℕ) (new : List ℕ) (r : Bool) → length new ≡ 4 * count → r ≡ leb (at + 4 * count) (length old) → r ≡ false → old ≡ overwrite old at new
 no_room old at count new r k e f =
-    let h = leb-false (at + 4 * count) (length old) (sym e ∙ not-true r f) in
+    let h = leb-false (at + 4 * count) (length old) (sym e ∙ f) in
     sym (overwrite_unfit old at new (omega arith))
-
-pub room : (len at count : ℕ) (r : Bool) → r ≡ leb (at + 4 * count) len → not r ≡ false → at + 4 * count ≤ len
-room len at count r e f = leb-true (at + 4 * count) len (sym e ∙ not-false r f)

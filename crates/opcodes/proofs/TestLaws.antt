@@ -7,21 +7,21 @@ use lib.Dec.{T, eqb, eqb→eq}
 use Rattle.opcodes.specs.Lists.{elem}
 use Rattle.opcodes.specs.Words.{opcode, is}
 
-pub T_and : (a b : Bool) → T (a && b) → T a × T b
-T_and true b t = (tt, t)
-T_and false b t = absurd t
+pub t_and : (a b : Bool) → T (a && b) → T a × T b
+t_and true b t = (tt, t)
+t_and false b t = absurd t
 
 pub and_t : (a b : Bool) → T a → T b → T (a && b)
 and_t true b s t = t
 and_t false b s t = absurd s
 
-pub T_true : (b : Bool) → T b → b ≡ true
-T_true true t = refl
-T_true false t = absurd t
+pub t_true : (b : Bool) → T b → b ≡ true
+t_true true t = refl
+t_true false t = absurd t
 
-pub T_false : (b : Bool) → T (not b) → b ≡ false
-T_false true t = absurd t
-T_false false t = refl
+pub t_false : (b : Bool) → T (not b) → b ≡ false
+t_false true t = absurd t
+t_false false t = refl
 
 pub not_not : (b : Bool) → T b → T (not (not b))
 not_not true t = tt
@@ -62,11 +62,11 @@ disjoint (x ∷ xs) ys = not (elem x ys) && disjoint xs ys
 
 elem_disjoint : (x : ℕ) (xs ys : List ℕ) → T (disjoint xs ys) → T (elem x xs) → elem x ys ≡ false
 elem_disjoint x [] ys d t = absurd t
-elem_disjoint x (z ∷ xs) ys d t = go (eqb x z) refl (λ u. elem_disjoint x xs ys (T_and (not (elem z ys)) (disjoint xs ys) d).1 u) t
+elem_disjoint x (z ∷ xs) ys d t = go (eqb x z) refl (λ u. elem_disjoint x xs ys (t_and (not (elem z ys)) (disjoint xs ys) d).1 u) t
   where
     go : (b : Bool) → eqb x z ≡ b → (T (elem x xs) → elem x ys ≡ false) → T (b || elem x xs) → elem x ys ≡ false
     go true e rest u =
-        subst (λ (v : ℕ). elem v ys ≡ false) (sym (eqb→eq x z (subst T (sym e) tt))) (T_false (elem z ys) (T_and (not (elem z ys)) (disjoint xs ys) d).0)
+        subst (λ (v : ℕ). elem v ys ≡ false) (sym (eqb→eq x z (subst T (sym e) tt))) (t_false (elem z ys) (t_and (not (elem z ys)) (disjoint xs ys) d).0)
     go false e rest u = rest u
 
 -- each element of the one list is in the other
@@ -76,10 +76,10 @@ subset (x ∷ xs) ys = elem x ys && subset xs ys
 
 elem_subset : (x : ℕ) (xs ys : List ℕ) → T (subset xs ys) → T (elem x xs) → T (elem x ys)
 elem_subset x [] ys d t = absurd t
-elem_subset x (z ∷ xs) ys d t = go (eqb x z) refl (λ u. elem_subset x xs ys (T_and (elem z ys) (subset xs ys) d).1 u) t
+elem_subset x (z ∷ xs) ys d t = go (eqb x z) refl (λ u. elem_subset x xs ys (t_and (elem z ys) (subset xs ys) d).1 u) t
   where
     go : (b : Bool) → eqb x z ≡ b → (T (elem x xs) → T (elem x ys)) → T (b || elem x xs) → T (elem x ys)
-    go true e rest u = subst (λ (v : ℕ). T (elem v ys)) (sym (eqb→eq x z (subst T (sym e) tt))) (T_and (elem z ys) (subset xs ys) d).0
+    go true e rest u = subst (λ (v : ℕ). T (elem v ys)) (sym (eqb→eq x z (subst T (sym e) tt))) (t_and (elem z ys) (subset xs ys) d).0
     go false e rest u = rest u
 
 -- ---- the opcode of a word: one of these is none of those, or one of those

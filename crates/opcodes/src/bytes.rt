@@ -3,6 +3,7 @@ ghost use Rattle.std.specs.Prelude.{◌≡◌, ◌+◌, ◌*◌, ◌≤◌, leb,
 ghost use Rattle.opcodes.specs.Bytes.{i32_bits, i32_bytes, overwrite, u32_at, u32_bytes, u32_record};
 
 // The u32 whose least byte stands at `at`. Bytes past the end count as 0.
+#[tactic(auto, unfolding(crate::specs::Bytes::u32_at))]
 pub fn read_u32(s: &[u8], at: usize) -> u32
     ensures { result ≡ u32_at s.now at }
 {
@@ -29,6 +30,7 @@ pub fn write_u32(out: &mut [u8], at: usize, x: u32)
 }
 
 // Writes the four bytes of v from `at` on, where they fit.
+#[tactic(auto, unfolding(crate::specs::Bytes::i32_bytes))]
 pub fn write_i32(out: &mut [u8], at: usize, v: i32)
     ensures { out.new ≡ overwrite out.old at (i32_bytes v) }
 {
@@ -46,6 +48,7 @@ pub fn write_record(out: &mut [u8], at: usize, values: &[u32])
 }
 
 // The bits of v, two's complement.
+#[tactic(auto, unfolding(crate::specs::Bytes::i32_bits))]
 pub fn i32_bits(v: i32) -> u32
     ensures { result ≡ i32_bits v }
 {
@@ -72,6 +75,7 @@ fn u32_of(b0: u8, b1: u8, b2: u8, b3: u8) -> u32
     (b0 as u32) + (b1 as u32) * 0x100 + (b2 as u32) * 0x1_0000 + (b3 as u32) * 0x100_0000
 }
 
+#[tactic(auto, unfolding(crate::specs::Bytes::u32_at))]
 fn get_u32(s: &[u8], at: usize) -> u32
     requires { at + 4 ≤ length s.now }
     ensures { result ≡ u32_at s.now at }

@@ -1,4 +1,6 @@
 // Lua 5.1 opcodes and the split of an instruction word, after luad's opcodes.rs.
+#![tactic(auto)]
+
 ghost use Rattle.std.specs.Prelude.{◌≡◌};
 ghost use Rattle.opcodes.specs.Words.{B, C, a_is_register, constant_index, decoded, is_constant, is_fixed_register, is_rk, mode_of, opcode_of};
 
@@ -8,7 +10,7 @@ pub mod bytes;
 pub const BITRK_51: u16 = 256;
 
 // All 38 official Lua 5.1 opcodes.
-#[derive(Drop)]
+#[derive(Clone, Copy)]
 pub enum Opcode51 {
     Move = 0,
     LoadK = 1,
@@ -51,14 +53,14 @@ pub enum Opcode51 {
 }
 
 // An opcode by its number: one of the 38, or the number as it stands, which in a decoded word is its six bits.
-#[derive(Drop)]
+#[derive(Clone, Copy)]
 pub enum OpcodeField {
     Known(Opcode51),
     Unknown(u8),
 }
 
 // Which operand fields a word has: A B C, A Bx or A sBx.
-#[derive(Drop)]
+#[derive(Clone, Copy)]
 pub enum OpMode51 {
     IABC,
     IABx,
@@ -66,7 +68,7 @@ pub enum OpMode51 {
 }
 
 // The fields of a 32-bit Lua 5.1 instruction word.
-#[derive(Drop)]
+#[derive(Clone, Copy)]
 pub struct RawInstruction51 {
     pub raw: u32,
     pub opcode_num: u8,
@@ -80,6 +82,7 @@ pub struct RawInstruction51 {
 
 impl Opcode51 {
     // The opcode of a number, where it is known.
+    #[tactic(auto, unfolding(crate::specs::Words::opcode_of, crate::specs::Words::opcodes, crate::specs::Words::opcode_at))]
     pub fn from_u8(val: u8) -> OpcodeField
         ensures { result ≡ opcode_of val }
     {
@@ -127,6 +130,7 @@ impl Opcode51 {
     }
 
     // Which operand fields the opcode has.
+    #[tactic(auto, unfolding(crate::specs::Words::mode_of, crate::specs::Words::number_of))]
     pub fn mode(self) -> OpMode51
         ensures { result ≡ mode_of self }
     {
@@ -139,6 +143,7 @@ impl Opcode51 {
     }
 
     // Whether A names a register.
+    #[tactic(auto, unfolding(crate::specs::Words::a_is_register, crate::specs::Words::number_of))]
     pub fn a_is_register(self) -> bool
         ensures { result ≡ a_is_register self }
     {
@@ -149,6 +154,7 @@ impl Opcode51 {
     }
 
     // Whether B always names a register.
+    #[tactic(auto, unfolding(crate::specs::Words::B, crate::specs::Words::is_fixed_register, crate::specs::Words::number_of))]
     pub fn b_is_fixed_register(self) -> bool
         ensures { result ≡ is_fixed_register B self }
     {
@@ -167,6 +173,7 @@ impl Opcode51 {
     }
 
     // Whether B is an RK operand: a register or a constant.
+    #[tactic(auto, unfolding(crate::specs::Words::B, crate::specs::Words::is_rk, crate::specs::Words::number_of))]
     pub fn b_is_rk(self) -> bool
         ensures { result ≡ is_rk B self }
     {
@@ -186,6 +193,7 @@ impl Opcode51 {
     }
 
     // Whether C always names a register.
+    #[tactic(auto, unfolding(crate::specs::Words::C, crate::specs::Words::is_fixed_register, crate::specs::Words::number_of))]
     pub fn c_is_fixed_register(self) -> bool
         ensures { result ≡ is_fixed_register C self }
     {
@@ -196,6 +204,7 @@ impl Opcode51 {
     }
 
     // Whether C is an RK operand: where B is, and in two opcodes more.
+    #[tactic(auto, unfolding(crate::specs::Words::B, crate::specs::Words::C, crate::specs::Words::is_rk, crate::specs::Words::number_of))]
     pub fn c_is_rk(self) -> bool
         ensures { result ≡ is_rk C self }
     {
@@ -210,6 +219,7 @@ impl RawInstruction51 {
     pub const OFFSET_SBX: i32 = 131071;
 
     // Splits a word. The field of n bits from bit k on is raw / 2^k % 2^n.
+    #[tactic(auto, unfolding(crate::specs::Words::decoded, crate::specs::Words::B, crate::specs::Words::C))]
     pub fn decode(raw: u32) -> RawInstruction51
         ensures { result ≡ decoded raw }
     {
@@ -262,6 +272,7 @@ impl RawInstruction51 {
 }
 
 // Whether an RK operand of this value, B or C, names a constant.
+#[tactic(auto, unfolding(crate::specs::Words::is_constant))]
 pub fn is_k(value: u16) -> bool
     ensures { result ≡ is_constant value }
 {
@@ -269,6 +280,7 @@ pub fn is_k(value: u16) -> bool
 }
 
 // The index of the constant that an RK operand of this value names, or the value as it stands.
+#[tactic(auto, unfolding(crate::specs::Words::is_constant, crate::specs::Words::constant_index))]
 pub fn index_k(value: u16) -> u16
     ensures { result ≡ constant_index value }
 {

@@ -8,12 +8,12 @@ use Rattle.opcodes.specs.Words.{is, field_bx, CLOSURE}
 use Rattle.chunk.specs.Table.{Row, row_bytes, row_at, rows, Proto, proto_of}
 use Rattle.chunk.specs.Roles.{Role, ClosureBinding, has_extra, word_at, executable_at, binding_count, existing, binding_words}
 use Rattle.chunk.specs.Bindings.{Write, binding_of, write_of, writes_at, writes, first_binding, binding_total, binding_bytes}
-use Rattle.roles.specs.Contracts.{records_between, child_of_row, proto_in, records_before, owned_bindings, child_bindings, companions_of, claimed_roles}
+use Rattle.roles.specs.Terms.{records_between, child_of_row, proto_in, records_before, owned_bindings, child_bindings, companions_of}
 use Rattle.roles.specs.BindingSteps.{bound_by, bound_from, bound_claim, RoomForAllOrNone, BindsFrom, Bindable, stored, bound_in}
 use Rattle.roles.specs.declared.discovery.Companions.{Companions}
-use Rattle.roles.specs.declared.discovery.Companions.TheVariants.{None, Bindings, Extra}
+use Rattle.roles.specs.declared.discovery.Companions.TheVariants.{None, Extra}
 use Rattle.opcodes.proofs.ListLaws.{foldl_flat_map, foldl_same, length_tabulate}
-use Rattle.opcodes.proofs.TestLaws.{T_true}
+use Rattle.opcodes.proofs.TestLaws.{t_true}
 use Rattle.opcodes.proofs.ByteLaws.{length_u32s, length_overwrite}
 use Rattle.chunk.proofs.TableLaws.{child_upvalues}
 use Rattle.chunk.proofs.TotalLaws.{records_front, records_next}
@@ -89,7 +89,7 @@ module _ (table : List ℕ) (row : ℕ) (code : List ℕ) where
   bind_begins old = record { bound = refl; long = refl }
 
   -- an executable word, and the companions that exist
-  module _ (code_of_lem : p.code ≡ u32s code) (base room : ℕ) (binds_from : BindsFrom table row base room)
+  module _ (code_of : p.code ≡ u32s code) (base room : ℕ) (binds_from : BindsFrom table row base room)
       (pc k w : ℕ) (cs : Companions) (roles new-roles : List ℕ) (step : OwnerStep table row code pc w k cs roles new-roles) where
     abbrev o : OwnerHere p pc w k
     o = step.here
@@ -117,16 +117,16 @@ module _ (table : List ℕ) (row : ℕ) (code : List ℕ) where
 
       words_there : binding_words p pc ≡ min upvalues (length p.code - (pc + 1))
       unfolding binding_words existing binding_count proto_in proto_of
-      words_there = rw (T_true (executable_at p pc) o.executes, o.word, closure)
+      words_there = rw (t_true (executable_at p pc) o.executes, o.word, closure)
 
       binds : binding_words p pc ≡ k
-      binds = omega (arith, claimed, words_there, ap length code_of_lem, length_u32s code)
+      binds = omega (arith, claimed, words_there, ap length code_of, length_u32s code)
 
       writes_here : writes_at p pc ≡ flat_map (λ j. write_of (field_bx w) j (pc + 1 + j) (get_or (u32s code) (pc + 1 + j) 0)) (up_from 0 k)
       unfolding writes_at word_at
       writes_here =
           ap (λ (v : ℕ). flat_map (λ j. write_of (field_bx v) j (pc + 1 + j) (word_at p (pc + 1 + j))) (up_from 0 (binding_words p pc))) o.word
-          ∙ ap₂ (λ (l : List ℕ) (n : ℕ). flat_map (λ j. write_of (field_bx w) j (pc + 1 + j) (get_or l (pc + 1 + j) 0)) (up_from 0 n)) code_of_lem binds
+          ∙ ap₂ (λ (l : List ℕ) (n : ℕ). flat_map (λ j. write_of (field_bx w) j (pc + 1 + j) (get_or l (pc + 1 + j) 0)) (up_from 0 n)) code_of binds
 
       -- they are the child's records
       place : (c : Row) → named ≡ some c → first_binding (rows table) c.row ≡ base + records_before table row (some c)
@@ -180,7 +180,7 @@ module _ (table : List ℕ) (row : ℕ) (code : List ℕ) where
 
       none_bound : binding_words p pc ≡ min 0 (length p.code - (pc + 1))
       unfolding binding_words existing binding_count
-      none_bound = rw (T_true (executable_at p pc) o.executes, o.word, other)
+      none_bound = rw (t_true (executable_at p pc) o.executes, o.word, other)
 
       none_here : writes_at p pc ≡ []
       unfolding writes_at flat_map
@@ -227,8 +227,8 @@ module _ (table : List ℕ) (row : ℕ) (code : List ℕ) where
         ∙ ap (λ (us : List Write). bound_in table row us old) (sym (writes_next p pc k o.executes o.count)) in
         record { bound = all; long = ap length all ∙ length_bound_in table row _ old }
 
-  pub bind_ends : (code_of_lem : p.code ≡ u32s code) (old out : List ℕ) (pc : ℕ) → BindPass table row code old out pc → pc ≡ length code / 4 → out ≡ bound_in table row (writes p) old
+  pub bind_ends : (code_of : p.code ≡ u32s code) (old out : List ℕ) (pc : ℕ) → BindPass table row code old out pc → pc ≡ length code / 4 → out ≡ bound_in table row (writes p) old
   unfolding writes
-  bind_ends code_of_lem old out pc v e =
-      let all : pc ≡ length p.code = e ∙ sym (ap length code_of_lem ∙ length_u32s code) in
+  bind_ends code_of old out pc v e =
+      let all : pc ≡ length p.code = e ∙ sym (ap length code_of ∙ length_u32s code) in
       v.bound ∙ ap (λ (n : ℕ). bound_in table row (flat_map (writes_at p) (up_from 0 n)) old) all

@@ -6,7 +6,7 @@ use Rattle.opcodes.specs.Bytes.{i32_bits, u32_record, overwrite}
 use Rattle.opcodes.specs.Words.{decoded, MOVE, GETUPVAL}
 use Rattle.opcodes.specs.declared.RawInstruction51.{RawInstruction51}
 use Rattle.chunk.specs.Bindings.{Binding, binding_index, binding_of, binding_bytes, binding_records}
-use Rattle.roles.specs.Contracts.{owned_bindings}
+use Rattle.roles.specs.Terms.{owned_bindings}
 use Rattle.roles.specs.BindingSteps.{set_record, bound_by, bound_from, bound_claim, Bindable}
 use Rattle.roles.specs.declared.discovery.Companions.{Companions}
 use Rattle.roles.specs.declared.discovery.Companions.TheVariants.{None, Bindings, Extra}

@@ -7,7 +7,7 @@ use Rattle.chunk.specs.Table.{Row, row_bytes, rows, proto_of, child_at}
 use Rattle.chunk.specs.Bindings.{Binding, unbound, writes, binding_total, bind_rows, bindings, binding_bytes, binding_records}
 use Rattle.chunk.specs.Refusals.{Refused, refuse, refuse_if, or_else, roles_refusal, too_short}
 use Rattle.chunk.specs.Calls.{answer, filled, roles_after, image_bindings, bindings_refusal, bindings_answer, bindings_after}
-use Rattle.roles.specs.Contracts.{refused_of, given_refusal, answer_of, field_total}
+use Rattle.roles.specs.Terms.{refused_of, given_refusal, answer_of, field_total}
 use Rattle.roles.specs.BindingSteps.{max_bindings, bound_rows}
 use Rattle.roles.specs.declared.refusals.Refusal.{Refusal}
 use Rattle.roles.specs.declared.refusals.Refusal.TheVariants as refusal

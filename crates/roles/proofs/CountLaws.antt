@@ -4,7 +4,7 @@ use Rattle.opcodes.specs.Lists.{up_from, tabulate, total}
 use Rattle.chunk.specs.Table.{Row, row_bytes, field_at, row_at, rows}
 use Rattle.chunk.specs.Refusals.{word_total}
 use Rattle.chunk.specs.Bindings.{binding_total, first_binding}
-use Rattle.roles.specs.Contracts.{field_total, records_between}
+use Rattle.roles.specs.Terms.{field_total, records_between}
 use Rattle.opcodes.proofs.ListLaws.{tabulate_next}
 use Rattle.chunk.proofs.TableLaws.{drop_rows}
 use Rattle.chunk.proofs.TotalLaws.{total_append, sum_append}
@@ -79,9 +79,6 @@ pub record TotalPass (table : List ℕ) (k sum row : ℕ) : Type 0 where
   pub most : sum ≤ 4294967296 * row
 
 module _ (table : List ℕ) (k : ℕ) where
-  pub total_begins : TotalPass table k 0 0
-  total_begins = record { so_far = refl; within = omega arith; most = omega arith }
-
   module _ (sum row : ℕ) (v : TotalPass table k sum row) where
     pub total_ends : length table / row_bytes ≤ row → sum ≡ field_total table k
     unfolding field_total

@@ -5,7 +5,7 @@ use lib.Seq.{take-nil}
 use Rattle.opcodes.specs.Lists.{tabulate}
 use Rattle.opcodes.specs.Bytes.{i32_record, u32_record, overwrite}
 use Rattle.chunk.specs.Roles.{Role, Instruction, ClosureBinding, SetlistExtra, role_fields, role_bytes, records_of}
-use Rattle.roles.specs.Contracts.{owner_field, index_field, owned_bindings, claimed_roles}
+use Rattle.roles.specs.Terms.{owner_field, index_field, owned_bindings, claimed_roles}
 use Rattle.roles.specs.declared.discovery.Companions.{Companions}
 use Rattle.roles.specs.declared.discovery.Companions.TheVariants.{None, Bindings, Extra}
 use Rattle.opcodes.proofs.ListLaws.{length_tabulate, take_tabulate}
@@ -80,3 +80,6 @@ owner_marked old m new pc n k cs there room e d =
       d.0,
       (records_next old m new (role_bytes * pc) (role_bytes * (pc + 1)) (Instruction ∷ []) mine (omega arith) (omega arith) e d.1.0, omega (arith, d.1.1)),
     )
+
+-- the law that the tactics use for a SETLIST's extra word
+pub ruleset mark_steps = (records_none)

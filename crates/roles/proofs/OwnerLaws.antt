@@ -1,10 +1,10 @@
 -- What a word is by the number of its opcode, and what an executable one owns. Assumes nothing.
-use Rattle.std.proofs.Common.{◌≡◌, ℕ, zero, suc, true, false, cond, eqb, List, [], ◌∷◌, sym, refl, ap, ◌∙◌, eq-eqb, ne_eqb}
+use Rattle.std.proofs.Common.{◌≡◌, ℕ, true, false, cond, eqb, List, [], ◌∷◌, sym, ap, ◌∙◌, eq-eqb, ne_eqb}
 use Rattle.opcodes.specs.Words.{decoded, is, opcode, CLOSURE, SETLIST}
 use Rattle.opcodes.specs.declared.RawInstruction51.{RawInstruction51}
 use Rattle.chunk.specs.Roles.{has_extra}
-use Rattle.roles.specs.Contracts.{owned_bindings, child_bindings, companions_of}
-use Rattle.roles.specs.declared.discovery.Companions.TheVariants.{None, Bindings, Extra}
+use Rattle.roles.specs.Terms.{child_bindings, companions_of}
+use Rattle.roles.specs.declared.discovery.Companions.TheVariants.{None, Extra}
 
 -- a word that was split has this opcode, or has another
 module _ (w : ℕ) (r : RawInstruction51) (split : r ≡ decoded w) where
@@ -28,13 +28,3 @@ module _ (table : List ℕ) (row w : ℕ) (r : RawInstruction51) (split : r ≡ 
   pub owns_nothing : (r.opcode_num ≡ CLOSURE → ⊥) → (r.opcode_num ≡ SETLIST → ⊥) → None ≡ companions_of table row w
   unfolding companions_of has_extra
   owns_nothing f g = rw (has_other w r split CLOSURE f, has_other w r split SETLIST g)
-
--- binding words of some number, as it was tested
-pub owned_none : (n first : ℕ) → n ≡ 0 → None ≡ owned_bindings n first
-unfolding owned_bindings
-owned_none n first e = sym (ap (λ (k : ℕ). owned_bindings k first) e)
-
-pub owned_some : (n first : ℕ) → (n ≡ 0 → ⊥) → Bindings n first ≡ owned_bindings n first
-unfolding owned_bindings
-owned_some zero first f = absurd (f refl)
-owned_some (suc n) first f = refl

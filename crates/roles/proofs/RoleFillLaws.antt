@@ -7,7 +7,7 @@ use Rattle.chunk.specs.Table.{Row, row_bytes, field_at, row_at, rows, Proto, pro
 use Rattle.chunk.specs.Roles.{Role, roles, role_bytes, records_of}
 use Rattle.chunk.specs.Refusals.{Refused, word_total, roles_refusal}
 use Rattle.chunk.specs.Calls.{filled, roles_after}
-use Rattle.roles.specs.Contracts.{proto_in}
+use Rattle.roles.specs.Terms.{proto_in}
 use Rattle.opcodes.proofs.ListLaws.{flat_map_append}
 use Rattle.opcodes.proofs.ByteLaws.{length_u32s, length_overwrite}
 use Rattle.opcodes.proofs.PartLaws.{u32s_part, paste}
@@ -32,11 +32,6 @@ module _ (table words : List ℕ) (row first next : ℕ) (stated : first + (row_
 
   pub part_length : length part ≡ 4 * (row_at table row).words
   part_length = length-take-le (4 * next - 4 * first) (drop (4 * first) words) (omega (arith, length-drop (4 * first) words)) ∙ omega arith
-
-  -- there is room for their roles in its part of a buffer
-  pub part_room : (out : List ℕ) → role_bytes * next ≤ length out → 2 * length part ≤ length (take (role_bytes * next - role_bytes * first) (drop (role_bytes * first) out))
-  part_room out room =
-      omega (arith, part_length, length-take-le (role_bytes * next - role_bytes * first) (drop (role_bytes * first) out) (omega (arith, length-drop (role_bytes * first) out)))
 
   pub part_proto : proto_in table row (u32s part) ≡ proto_in table row (drop first (u32s words))
   unfolding proto_in proto_of
@@ -89,13 +84,13 @@ module _ (table words old : List ℕ) (accepted : roles_refusal table words (len
         ∙ sym (ap (λ (o : Option Refused). filled o old (records_of (flat_map roles ps))) accepted)
 
     module _ (there : row < length table / row_bytes) (n : ℕ) (stated : n ≡ field_at table row 1) where
-      pub words_of : (row_at table row).words ≡ n
+      pub words_of_lem : (row_at table row).words ≡ n
       unfolding row_at
-      words_of = sym stated
+      words_of_lem = sym stated
 
       -- the row's words and its part of the buffer are there
       next : first + n ≡ word_total (take (suc row) (rows table))
-      next = omega (arith, words_next table row there, words_of, v.before)
+      next = omega (arith, words_next table row there, words_of_lem, v.before)
 
       pub rows_there : (row_bytes * row + row_bytes ≤ length table) × (length table / row_bytes ≤ 16384)
       rows_there = (omega arith, omega (arith, kept.row_limit, length_rows table))
@@ -122,7 +117,7 @@ module _ (table words old : List ℕ) (accepted : roles_refusal table words (len
           let more : flat_map roles (take (row + 1) ps) ≡ rs ++ roles p = ap (flat_map roles) one ∙ flat_map_append roles (take row ps) (p ∷ []) ∙ ap (λ (l : List Role). rs ++ l) (append-nil (roles p)) in
           let here : length rs ≡ first = words_before_lem (rows table) (u32s words) row (omega (arith, length_u32s words, kept.word_count)) ∙ sym v.before in
           let bounds = words_there in
-          let few : length (roles p) ≤ n = omega (arith, roles_most table row (drop first (u32s words)), words_of) in
+          let few : length (roles p) ≤ n = omega (arith, roles_most table row (drop first (u32s words)), words_of_lem) in
           let written : new ≡ overwrite old 0 (records_of (rs ++ roles p)) =
           records_next old out new 0 (role_bytes * first) rs (roles p) (omega arith) (omega (arith, bounds.2, v.long)) v.written e in
           record {

@@ -4,7 +4,7 @@ use mathlib.Core.Option.{Option, none, some}
 use Rattle.chunk.specs.Table.{row_bytes, rows}
 use Rattle.chunk.specs.Refusals.{Refused, max_rows, word_total, roles_refusal}
 use Rattle.chunk.specs.Calls.{answer, roles_answer, roles_after}
-use Rattle.roles.specs.Contracts.{refused_of, given_refusal, answer_of}
+use Rattle.roles.specs.Terms.{refused_of, given_refusal, answer_of}
 use Rattle.roles.specs.declared.refusals.Refusal.{Refusal}
 use Rattle.roles.specs.declared.refusals.Acceptance.{Acceptance}
 use Rattle.roles.specs.declared.refusals.Acceptance.TheVariants as acceptance

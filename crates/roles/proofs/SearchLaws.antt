@@ -1,11 +1,10 @@
 -- The search for a child over the rows of a table, one at a time, and where it can be resumed. Assumes nothing.
 use Rattle.std.proofs.Common.{◌≡◌, ℕ, suc, ◌+◌, ◌-◌, ◌*◌, ◌/◌, ◌%◌, ◌^◌, ◌<◌, ◌≤◌, Bool, true, false, eqb, ltb, List, [], length, get_or, drop, set, sym, refl, ap, ◌∙◌, ap₂, add-zero, zero-add, add-one, arith, length-set, get_or-set_other, get_or-set_same, ltb-false, ltb-true, eqb-true}
-use mathlib.Core.Path.{subst⁻¹}
 use mathlib.Core.Option.{Option, none, some}
 use lib.ListN.{get_or-eq_default}
 use borrow.Author.Tests.{eqb-false}
 use Rattle.chunk.specs.Table.{Row, row_bytes, field_at, row_at, rows, children, child_at}
-use Rattle.roles.specs.Contracts.{records_between, child_from, child_of_row, in_index, RoomForChildren, Tracks, proto_in, records_before, owned_bindings, child_bindings}
+use Rattle.roles.specs.Terms.{records_between, child_from, child_of_row, in_index, RoomForChildren, Tracks, proto_in, records_before, owned_bindings, child_bindings}
 use Rattle.roles.specs.declared.table.Child.{Child}
 use Rattle.roles.specs.declared.table.Child.TheVariants as child
 use Rattle.roles.specs.declared.search.Cursor.{Cursor}
@@ -232,10 +231,6 @@ module _ (table : List ℕ) (parent : ℕ) where
           resumes = λ k. rw (zero-add, add-one);
           ends = λ k h. too_few table (suc parent) (row_at table parent).depth k (omega arith);
         }
-
-    -- the same cursor
-    pub unmoved : (u v : Cursor) → v ≡ u → Tracks table parent index u → Tracks table parent index v
-    unmoved u v e h = subst⁻¹ (Tracks table parent index) e h
 
     module _ (u : Cursor) (v : Tracks table parent index u) where
       -- past the end

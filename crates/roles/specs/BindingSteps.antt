@@ -8,7 +8,7 @@ use Rattle.opcodes.specs.Bytes.{overwrite}
 use Rattle.chunk.specs.Table.{Row, rows}
 use Rattle.chunk.specs.Bindings.{Binding, Write, binding_of, writes, first_binding, binding_total, binding_bytes, binding_records}
 use Rattle.chunk.specs.Refusals.{word_total}
-use Rattle.roles.specs.Contracts.{child_of_row, proto_in}
+use Rattle.roles.specs.Terms.{child_of_row, proto_in}
 use Rattle.roles.specs.declared.discovery.Companions.{Companions}
 use Rattle.roles.specs.declared.discovery.Companions.TheVariants.{None, Bindings, Extra}
 

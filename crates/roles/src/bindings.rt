@@ -40,7 +40,7 @@ pub fn bind_claim(
     companions: Companions,
     existing: usize,
 )
-    requires existing_in_bounds { (pc + existing < length code.now / 4) × (length code.now ≤ max_word_bytes) × (base ≤ max_bindings) }
+    requires words_there { (pc + existing < length code.now / 4) × (length code.now ≤ max_word_bytes) × (base ≤ max_bindings) }
     requires bindable { Bindable base existing (length bindings.old) companions }
     ensures { bindings.new ≡ bound_claim (u32s code.now) pc base existing companions bindings.old }
 {
@@ -71,8 +71,8 @@ fn bind_child(
     pc: usize,
     existing: usize,
 )
-    requires existing_in_bounds { (pc + existing < length code.now / 4) × (length code.now ≤ max_word_bytes) }
-    requires existing_le_upvalues { (existing ≤ upvalues) × (binding_bytes * (first + upvalues) ≤ length bindings.old) }
+    requires words_there { (pc + existing < length code.now / 4) × (length code.now ≤ max_word_bytes) }
+    requires records_fit { (existing ≤ upvalues) × (binding_bytes * (first + upvalues) ≤ length bindings.old) }
     ensures { bindings.new ≡ bound_from (u32s code.now) (pc + 1) first existing bindings.old }
 {
     bind_words(
@@ -85,8 +85,8 @@ fn bind_child(
 
 // So many words after the CLOSURE at pc each set a record, in order.
 fn bind_words(records: &mut [u8], code: &[u8], pc: usize, count: usize)
-    requires count_in_bounds { (pc + count < length code.now / 4) × (length code.now ≤ max_word_bytes) }
-    requires count_in_bounds_2 { binding_bytes * count ≤ length records.old }
+    requires words_there { (pc + count < length code.now / 4) × (length code.now ≤ max_word_bytes) }
+    requires records_fit { binding_bytes * count ≤ length records.old }
     ensures { records.new ≡ bound_from (u32s code.now) (pc + 1) 0 count records.old }
 {
     let mut j = 0;

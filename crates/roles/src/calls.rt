@@ -8,7 +8,7 @@ ghost use Rattle.chunk.specs.Refusals.{max_rows, max_word_bytes, roles_refusal};
 ghost use Rattle.chunk.specs.Roles.{records_of, role_bytes, roles as protoRoles};
 ghost use Rattle.chunk.specs.Table.{row_at, row_bytes};
 ghost use Rattle.roles.specs.BindingSteps.{BindsFrom, RoomForAllOrNone, bound_in, bound_rows};
-ghost use Rattle.roles.specs.Contracts.{RoomForChildren, answer_of, proto_in};
+ghost use Rattle.roles.specs.Terms.{RoomForChildren, answer_of, proto_in};
 ghost use Rattle.roles.specs.declared.calls.Answer.TheVariants.{Refused};
 ghost use Rattle.roles.specs.declared.refusals.Refusal.TheVariants.{BufferTooShort};
 
@@ -19,7 +19,7 @@ use crate::role::ROLE_BYTES;
 use crate::table::{ROW_BYTES, UPVALUES, WORDS, field};
 
 // A call's answer: a refusal, or the number of its records.
-#[derive(Drop)]
+#[derive(Clone, Copy)]
 pub enum Answer {
     Refused(Refusal),
     Records(u32),
@@ -80,7 +80,7 @@ fn fill_roles(protos: &[u8], words: &[u8], roles: &mut [u8])
 
 // The roles and the bindings, with an index for the search for children: a short one where it will do.
 fn fill_rows(protos: &[u8], words: &[u8], roles: &mut [u8], bindings: &mut [u8])
-    requires roles_value { roles_refusal protos.now words.now (length roles.old) ≡ none }
+    requires accepted { roles_refusal protos.now words.now (length roles.old) ≡ none }
     requires room_for_all_or_none { RoomForAllOrNone protos.now (length bindings.old) }
     ensures roles_after { roles.new ≡ roles_after protos.now words.now roles.old }
     ensures bindings_after { bindings.new ≡ bound_rows protos.now (u32s words.now) (length protos.now / row_bytes) bindings.old }
@@ -94,9 +94,9 @@ fn fill_rows(protos: &[u8], words: &[u8], roles: &mut [u8], bindings: &mut [u8])
 
 // The same for a table of few rows.
 fn fill_few(protos: &[u8], words: &[u8], roles: &mut [u8], bindings: &mut [u8])
-    requires roles_value { roles_refusal protos.now words.now (length roles.old) ≡ none }
+    requires accepted { roles_refusal protos.now words.now (length roles.old) ≡ none }
     requires room_for_all_or_none { RoomForAllOrNone protos.now (length bindings.old) }
-    requires row_bytes_len_bound { length protos.now / row_bytes ≤ 256 }
+    requires few_rows { length protos.now / row_bytes ≤ 256 }
     ensures roles_after { roles.new ≡ roles_after protos.now words.now roles.old }
     ensures bindings_after { bindings.new ≡ bound_rows protos.now (u32s words.now) (length protos.now / row_bytes) bindings.old }
 {
@@ -106,7 +106,7 @@ fn fill_few(protos: &[u8], words: &[u8], roles: &mut [u8], bindings: &mut [u8])
 
 // The same for any table.
 fn fill_many(protos: &[u8], words: &[u8], roles: &mut [u8], bindings: &mut [u8])
-    requires roles_value { roles_refusal protos.now words.now (length roles.old) ≡ none }
+    requires accepted { roles_refusal protos.now words.now (length roles.old) ≡ none }
     requires room_for_all_or_none { RoomForAllOrNone protos.now (length bindings.old) }
     ensures roles_after { roles.new ≡ roles_after protos.now words.now roles.old }
     ensures bindings_after { bindings.new ≡ bound_rows protos.now (u32s words.now) (length protos.now / row_bytes) bindings.old }
@@ -123,7 +123,7 @@ fn fill_indexed(
     bindings: &mut [u8],
     index: &mut [u32],
 )
-    requires roles_value { roles_refusal protos.now words.now (length roles.old) ≡ none }
+    requires accepted { roles_refusal protos.now words.now (length roles.old) ≡ none }
     requires room_for_all_or_none { RoomForAllOrNone protos.now (length bindings.old) }
     requires room_for_children { RoomForChildren protos.now index.old }
     ensures roles_after { roles.new ≡ roles_after protos.now words.now roles.old }
@@ -156,9 +156,9 @@ fn fill_row(
     base: usize,
     index: &mut [u32],
 )
-    requires row_bytes_in_bounds { (row_bytes * row + row_bytes ≤ length protos.now) × (length protos.now / row_bytes ≤ max_rows) }
-    requires row_value { first + (row_at protos.now row).words ≡ next }
-    requires next_bound { (4 * next ≤ max_word_bytes) × (4 * next ≤ length words.now) × (role_bytes * next ≤ length roles.old) }
+    requires row_there { (row_bytes * row + row_bytes ≤ length protos.now) × (length protos.now / row_bytes ≤ max_rows) }
+    requires words_stated { first + (row_at protos.now row).words ≡ next }
+    requires parts_fit { (4 * next ≤ max_word_bytes) × (4 * next ≤ length words.now) × (role_bytes * next ≤ length roles.old) }
     requires binds_from { BindsFrom protos.now row base (length bindings.old) }
     requires room_for_children { RoomForChildren protos.now index.old }
     ensures roles_after { roles.new ≡ overwrite roles.old (role_bytes * first) (records_of (protoRoles (proto_in protos.now row (drop first (u32s words.now))))) }

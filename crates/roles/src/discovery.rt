@@ -7,7 +7,7 @@ ghost use Rattle.chunk.specs.Refusals.{max_rows, max_word_bytes};
 ghost use Rattle.chunk.specs.Roles.{ClosureBinding, records_of, role_bytes, roles};
 ghost use Rattle.chunk.specs.Table.{row_at, row_bytes};
 ghost use Rattle.roles.specs.BindingSteps.{BindsFrom, bound_in};
-ghost use Rattle.roles.specs.Contracts.{RoomForChildren, Tracks, child_bindings, claimed_roles, companions_of, owned_bindings, proto_in};
+ghost use Rattle.roles.specs.Terms.{RoomForChildren, Tracks, child_bindings, claimed_roles, companions_of, owned_bindings, proto_in};
 ghost use Rattle.roles.specs.declared.discovery.Companions.TheVariants.{Extra, None};
 
 use crate::bindings::bind_claim;
@@ -24,7 +24,7 @@ const SETLIST: u8 = 34;
 
 // The words that an executable word owns: none, those that bind a child's upvalues, or a SETLIST's extra word. Bindings have their number, and
 // how many binding records stand between the prototype's own and those of the child.
-#[derive(Drop)]
+#[derive(Clone, Copy)]
 pub enum Companions {
     None,
     Bindings(u32, u32),
@@ -32,7 +32,7 @@ pub enum Companions {
 }
 
 // What an executable word owns, and the cursor after the search for its child.
-#[derive(Drop)]
+#[derive(Clone, Copy)]
 pub struct Claim {
     pub cursor: Cursor,
     pub companions: Companions,
@@ -50,9 +50,9 @@ pub fn discover_roles_lua51(
     base: usize,
     index: &mut [u32],
 )
-    requires row_bytes_in_bounds { (row_bytes * row + row_bytes ≤ length protos.now) × (length protos.now / row_bytes ≤ max_rows) }
-    requires row_value { (row_at protos.now row).words ≡ length code.now / 4 }
-    requires code_len_bound { (length code.now ≤ max_word_bytes) × (2 * length code.now ≤ length out.old) }
+    requires row_there { (row_bytes * row + row_bytes ≤ length protos.now) × (length protos.now / row_bytes ≤ max_rows) }
+    requires words_stated { (row_at protos.now row).words ≡ length code.now / 4 }
+    requires roles_fit { (length code.now ≤ max_word_bytes) × (2 * length code.now ≤ length out.old) }
     requires binds_from { BindsFrom protos.now row base (length bindings.old) }
     requires room_for_children { RoomForChildren protos.now index.old }
     ensures out_after { out.new ≡ overwrite out.old 0 (records_of (roles (proto_in protos.now row (u32s code.now)))) }
@@ -82,7 +82,7 @@ pub(crate) fn word_at(code: &[u8], pc: usize) -> u32
 
 // The cursor before the first child of a row: whatever the index has, no child is known.
 fn first_child(protos: &[u8], row: usize, index: &[u32]) -> Cursor
-    requires row_bytes_in_bounds { (row_bytes * row + row_bytes ≤ length protos.now) × (length protos.now / row_bytes ≤ max_rows) }
+    requires row_there { (row_bytes * row + row_bytes ≤ length protos.now) × (length protos.now / row_bytes ≤ max_rows) }
     requires room_for_children { RoomForChildren protos.now index.now }
     ensures { Tracks protos.now row index.now result }
 {
@@ -96,10 +96,10 @@ fn first_child(protos: &[u8], row: usize, index: &[u32]) -> Cursor
 
 // What an executable word of the row owns.
 fn claim_of(protos: &[u8], row: usize, index: &mut [u32], cursor: Cursor, word: u32) -> Claim
-    requires row_bytes_in_bounds { (row_bytes * row + row_bytes ≤ length protos.now) × (length protos.now / row_bytes ≤ max_rows) }
+    requires row_there { (row_bytes * row + row_bytes ≤ length protos.now) × (length protos.now / row_bytes ≤ max_rows) }
     requires tracks { Tracks protos.now row index.old cursor }
-    ensures companions_value { result.companions ≡ companions_of protos.now row word }
-    ensures tracks_2 { Tracks protos.now row index.new result.cursor }
+    ensures owned { result.companions ≡ companions_of protos.now row word }
+    ensures still_tracks { Tracks protos.now row index.new result.cursor }
 {
     let w = RawInstruction51::decode(word);
     if w.opcode_num == CLOSURE {
@@ -116,10 +116,10 @@ fn claim_of(protos: &[u8], row: usize, index: &mut [u32], cursor: Cursor, word: 
 
 // A CLOSURE that names child k owns a word for each of its upvalues, where there is such a child.
 fn claim_child(protos: &[u8], row: usize, index: &mut [u32], cursor: Cursor, k: u32) -> Claim
-    requires row_bytes_in_bounds { (row_bytes * row + row_bytes ≤ length protos.now) × (length protos.now / row_bytes ≤ max_rows) }
+    requires row_there { (row_bytes * row + row_bytes ≤ length protos.now) × (length protos.now / row_bytes ≤ max_rows) }
     requires tracks { Tracks protos.now row index.old cursor }
-    ensures companions_value { result.companions ≡ child_bindings protos.now row k }
-    ensures tracks_2 { Tracks protos.now row index.new result.cursor }
+    ensures owned { result.companions ≡ child_bindings protos.now row k }
+    ensures still_tracks { Tracks protos.now row index.new result.cursor }
 {
     let found = cursor.find(protos, row, index, k);
     let cursor = found.cursor;
@@ -137,6 +137,7 @@ fn claim_child(protos: &[u8], row: usize, index: &mut [u32], cursor: Cursor, k: 
 }
 
 // So many binding words, or none, of a child, with how many binding records stand between the prototype's own and the child's.
+#[tactic(auto, unfolding(crate::specs::Terms::owned_bindings))]
 fn binding_words(count: u32, first: u32) -> Companions
     ensures { result ≡ owned_bindings count first }
 {
@@ -169,7 +170,7 @@ fn mark(out: &mut [u8], pc: usize, room: usize, companions: Companions) -> usize
     requires { (pc + room < max_word_bytes / 4) × (role_bytes * (pc + 1 + room) ≤ length out.old) }
     ensures value { result ≡ length (take room (claimed_roles pc companions)) }
     ensures out_after { out.new ≡ overwrite out.old (role_bytes * (pc + 1)) (records_of (take room (claimed_roles pc companions))) }
-    ensures upper_bound { result ≤ room }
+    ensures within_room { result ≤ room }
 {
     match companions {
         Companions::None => 0,
@@ -203,6 +204,7 @@ fn mark_bindings(out: &mut [u8], pc: usize, count: usize) -> usize
 }
 
 // Marks the extra word of the SETLIST at pc, where it exists.
+#[tactic(auto, using(crate::proofs::MarkLaws::mark_steps), unfolding(crate::specs::Terms::claimed_roles))]
 fn mark_extra(out: &mut [u8], pc: usize, room: usize) -> usize
     requires { (pc + room < max_word_bytes / 4) × (role_bytes * (pc + 1 + room) ≤ length out.old) }
     ensures value { result ≡ length (take room (claimed_roles pc Extra)) }

@@ -1,4 +1,6 @@
 // The prototype table, its refusals, the roles of words and the bindings of upvalues, after luad's roles.rs and the end of `load_proto_51`.
+#![tactic(auto)]
+
 mod bindings;
 pub mod calls;
 mod discovery;

@@ -2,7 +2,7 @@
 ghost use Rattle.std.specs.Prelude.{◌≡◌, ◌+◌, ◌*◌, ◌/◌, ◌^◌, ◌<◌, ◌≤◌, ◌||◌, length, nat_lt};
 ghost use Rattle.chunk.specs.Refusals.{bad_depth, bad_field, depth_fits, fields_fit, image_refusal, max_rows, max_word_bytes, roles_refusal};
 ghost use Rattle.chunk.specs.Table.{row_at, row_bytes, row_fields, rows};
-ghost use Rattle.roles.specs.Contracts.{field_total, given_refusal};
+ghost use Rattle.roles.specs.Terms.{field_total, given_refusal};
 
 use crate::role::ROLE_BYTES;
 use crate::table::{CONSTANTS, DEPTH, ROW_BYTES, STACK, UPVALUES, WORDS, field};
@@ -20,7 +20,7 @@ pub const MAX_UPVALUES: u32 = 255;
 pub const MAX_STACK: u32 = 255;
 
 // Why a call is refused. BadDepth and FieldOverLimit have the first such row, BufferTooShort the number of records needed.
-#[derive(Drop)]
+#[derive(Clone, Copy)]
 pub enum Refusal {
     NoProtos,
     PartialRow,
@@ -33,13 +33,14 @@ pub enum Refusal {
 }
 
 // The refusal that applies, or none.
-#[derive(Drop)]
+#[derive(Clone, Copy)]
 pub enum Acceptance {
     Refused(Refusal),
     Accepted,
 }
 
 // 1 to 7, for a role buffer of so many bytes.
+#[tactic(auto, unfolding(chunk::specs::Refusals::roles_refusal, chunk::specs::Refusals::or_else, crate::specs::Terms::given_refusal))]
 pub fn check_roles(protos: &[u8], words: &[u8], room: usize) -> Acceptance
     ensures { given_refusal result ≡ roles_refusal protos.now words.now room }
 {
@@ -53,6 +54,7 @@ pub fn check_roles(protos: &[u8], words: &[u8], room: usize) -> Acceptance
 }
 
 // 1 to 6.
+#[tactic(auto, using(crate::proofs::ImageCheckLaws::image_counts), unfolding(chunk::specs::Refusals::image_refusal, chunk::specs::Refusals::or_else, chunk::specs::Refusals::refuse_if, chunk::specs::Refusals::refuse, crate::specs::Terms::given_refusal, crate::specs::Terms::refused_of))]
 pub fn check_image(protos: &[u8], words: &[u8]) -> Acceptance
     ensures { given_refusal result ≡ image_refusal protos.now words.now }
 {
@@ -107,6 +109,7 @@ fn check_depths(protos: &[u8]) -> Acceptance
 }
 
 // A row's depth is from `least` to `most`, and within the limit.
+#[tactic(auto, unfolding(chunk::specs::Refusals::depth_fits, chunk::specs::Table::row_at))]
 fn depth_fits(protos: &[u8], row: usize, least: u32, most: u32) -> bool
     requires { row_bytes * row + row_bytes ≤ length protos.now }
     ensures { result ≡ depth_fits least most (row_at protos.now row) }
@@ -137,6 +140,7 @@ fn check_fields(protos: &[u8]) -> Acceptance
     Acceptance::Accepted
 }
 
+#[tactic(auto, unfolding(chunk::specs::Refusals::fields_fit, chunk::specs::Table::row_at))]
 fn fields_fit(protos: &[u8], row: usize) -> bool
     requires { row_bytes * row + row_bytes ≤ length protos.now }
     ensures { result ≡ fields_fit (row_at protos.now row) }

@@ -3,7 +3,7 @@
 ghost use Rattle.std.specs.Prelude.{◌≡◌, suc, ◌+◌, ◌-◌, ◌*◌, ◌/◌, ◌<◌, ◌≤◌, length};
 ghost use Rattle.chunk.specs.Refusals.{max_rows};
 ghost use Rattle.chunk.specs.Table.{row_bytes};
-ghost use Rattle.roles.specs.Contracts.{Tracks, child_from, child_of_row};
+ghost use Rattle.roles.specs.Terms.{Tracks, child_from, child_of_row};
 
 use crate::table::{Child, DEPTH, UPVALUES, field, find_child};
 use std::num::wrapping_add_u32;
@@ -11,7 +11,7 @@ use std::num::wrapping_add_u32;
 // The first `known` children of the prototype stand in the index, each by its row and the index of its first binding record. The others are the
 // children from row `row` on, and `first` binding records stand between the prototype's own and those of that row. There is no child of number
 // `end` or above.
-#[derive(Drop)]
+#[derive(Clone, Copy)]
 pub struct Cursor {
     pub known: u32,
     pub row: usize,
@@ -20,7 +20,7 @@ pub struct Cursor {
 }
 
 // A child, and the cursor after the search for it.
-#[derive(Drop)]
+#[derive(Clone, Copy)]
 pub struct Found {
     pub child: Child,
     pub cursor: Cursor,
@@ -29,10 +29,10 @@ pub struct Found {
 impl Cursor {
     // Child k of the prototype in row `parent`. A child that is known, or known to be missing, is found without a search.
     pub fn find(self, protos: &[u8], parent: usize, index: &mut [u32], k: u32) -> Found
-        requires row_bytes_in_bounds { (row_bytes * parent + row_bytes ≤ length protos.now) × (length protos.now / row_bytes ≤ max_rows) }
+        requires row_there { (row_bytes * parent + row_bytes ≤ length protos.now) × (length protos.now / row_bytes ≤ max_rows) }
         requires tracks { Tracks protos.now parent index.old self }
-        ensures child_value { result.child ≡ child_from protos.now (suc parent) 0 (child_of_row protos.now parent k) }
-        ensures tracks_2 { Tracks protos.now parent index.new result.cursor }
+        ensures child { result.child ≡ child_from protos.now (suc parent) 0 (child_of_row protos.now parent k) }
+        ensures still_tracks { Tracks protos.now parent index.new result.cursor }
     {
         let mut cursor = self;
         while cursor.known <= k {
@@ -53,11 +53,11 @@ impl Cursor {
 
     // Puts the next child into the index, where there is one.
     fn find_next(self, protos: &[u8], parent: usize, index: &mut [u32]) -> Cursor
-        requires row_bytes_in_bounds { (row_bytes * parent + row_bytes ≤ length protos.now) × (length protos.now / row_bytes ≤ max_rows) }
+        requires row_there { (row_bytes * parent + row_bytes ≤ length protos.now) × (length protos.now / row_bytes ≤ max_rows) }
         requires tracks { Tracks protos.now parent index.old self }
-        requires known_lt_end { self.known < self.end }
-        ensures tracks_2 { Tracks protos.now parent index.new result }
-        ensures known_bound { result.end - result.known < self.end - self.known }
+        requires more { self.known < self.end }
+        ensures still_tracks { Tracks protos.now parent index.new result }
+        ensures fewer_left { result.end - result.known < self.end - self.known }
     {
         let depth = field(protos, parent, DEPTH);
         let Child::Row(first, row) = find_child(protos, self.row, depth, 0, self.first) else {

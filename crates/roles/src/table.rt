@@ -1,7 +1,7 @@
 // The prototype table: rows of five u32, in preorder.
 ghost use Rattle.std.specs.Prelude.{◌≡◌, ◌+◌, ◌*◌, ◌<◌, ◌≤◌, length, drop};
 ghost use Rattle.chunk.specs.Table.{child_at, field_at, row_bytes, row_fields, rows};
-ghost use Rattle.roles.specs.Contracts.{child_from};
+ghost use Rattle.roles.specs.Terms.{child_from};
 
 use opcodes::bytes::read_u32;
 use std::num::wrapping_add_u32;
@@ -21,7 +21,7 @@ pub const UPVALUES: usize = 3;
 pub const STACK: usize = 4;
 
 // The index of a child's first binding record and the child's row, or that there is none. (In this order the answer takes 16 bytes.)
-#[derive(Drop)]
+#[derive(Clone, Copy)]
 pub enum Child {
     Row(u32, usize),
     Missing,

@@ -8,27 +8,27 @@ use Rattle.opcodes.specs.Lists.{elem, only, up_from}
 use Rattle.opcodes.specs.Words.{B, opcode, operand, is, decoded, CLOSURE, SETLIST}
 use Rattle.opcodes.specs.declared.RawInstruction51.{RawInstruction51}
 use Rattle.opcodes.proofs.ListLaws.{flat_map_append, up_from_append}
-use Rattle.opcodes.proofs.TestLaws.{T_true, is_not, by_cond}
+use Rattle.opcodes.proofs.TestLaws.{t_true, is_not, by_cond}
 use Rattle.chunk.specs.Roles.{Instruction, is_executable, Executable, executable_at, role_at, word_at, roles, owned, existing, companions, binding_count, binding_words, has_extra}
 use Rattle.chunk.specs.Table.{Proto}
-use Rattle.roles.specs.Contracts.{role_in}
+use Rattle.roles.specs.Terms.{role_in}
 use Rattle.chunk.proofs.RoleBufferLaws.{length_roles}
 use Rattle.chunk.proofs.RoleLaws.{exists, next_executable, owned_count, companion_unexecutable}
 use Rattle.verdict.specs.Diagnostics.{Diagnostic, diagnostic, not_below, opcode_value, binding_diagnostics}
 use Rattle.verdict.specs.Operands.{is_unknown, is_binding, captured_register, captured_upvalue}
-use Rattle.validator.specs.Contracts.{Describes}
+use Rattle.validator.specs.Terms.{Describes}
 use Rattle.validator.specs.Steps.{State, emitted_if, emit_all}
 use Rattle.validator.specs.declared.prototype.Prototype.{Prototype}
 use Rattle.validator.proofs.EmitLaws.{emits_only, emits_then, emits_none}
 use Rattle.validator.proofs.FaultLaws.{claims_count}
-use Rattle.validator.proofs.DescribedLaws.{looked_up, word_read, words_of}
+use Rattle.validator.proofs.DescribedLaws.{looked_up, word_read, words_of_lem}
 
 -- ---- one
 
 module _ (r : RawInstruction51) (w : ℕ) (split : r ≡ decoded w) where
-  number_of : r.opcode_num ≡ opcode w
+  number_of_lem : r.opcode_num ≡ opcode w
   unfolding decoded
-  number_of = ap (λ (x : RawInstruction51). x.opcode_num) split
+  number_of_lem = ap (λ (x : RawInstruction51). x.opcode_num) split
 
   -- what it captures under an opcode
   pub captured : (op : ℕ) → only (eqb r.opcode_num op) r.b ≡ only (is w (op ∷ [])) (operand B w)
@@ -49,7 +49,7 @@ pub bad_binding : (row pc w : ℕ) (r : RawInstruction51) → r ≡ decoded w �
     → t ≡ emitted_if (not b) row pc 17 v s → t ≡ emit_all row (only (not (is_binding w)) (diagnostic pc 17 (opcode_value w))) s
 unfolding is_binding is i32_bits
 bad_binding row pc w r split b v s t e f g =
-    let n = number_of r w split in
+    let n = number_of_lem r w split in
     g
     ∙ ap₂ (λ (x : Bool) (y : ℕ). emitted_if (not x) row pc 17 y s) (e ∙ ap (λ (m : ℕ). elem m (0 ∷ 4 ∷ [])) n) (f ∙ ap (λ (m : ℕ). cond (ltb 37 m) 4294967295 m) n ∙ opcode_bits w)
     ∙ emits_only row (not (is_binding w)) (diagnostic pc 17 (opcode_value w)) s
@@ -76,7 +76,7 @@ unfolding binding_words companions has_extra only
 closure_owns p pc x t =
     let n : owned p pc ≡ binding_count p (word_at p pc) =
     owned_count p pc x ∙ claims_count p pc (word_at p pc) ∙ rw (is_not (word_at p pc) (CLOSURE ∷ []) (SETLIST ∷ []) tt t) (add-zero _) in
-    rw (T_true (executable_at p pc) x, n)
+    rw (t_true (executable_at p pc) x, n)
 
 -- another word has none
 pub only_closures : (p : Proto) (pc : ℕ) → is (word_at p pc) (CLOSURE ∷ []) ≡ false → binding_words p pc ≡ 0
@@ -112,7 +112,7 @@ module _ (p : Proto) (pc : ℕ) (x : Executable p pc) (t : T (is (word_at p pc) 
       go : (b : Bool) → leb (owned p pc) (length p.code - (pc + 1)) ≡ b → is_executable (role_at p (pc + 1 + binding_words p pc)) ≡ true
       go true e =
           let n : binding_words p pc ≡ owned p pc = omega (arith, closure_owns p pc x t, leb-true (owned p pc) (length p.code - (pc + 1)) e) in
-          rw n (T_true _ (next_executable p pc x))
+          rw n (t_true _ (next_executable p pc x))
       go false e = past_executable p (pc + 1 + binding_words p pc) (omega (arith, closure_owns p pc x t, leb-false (owned p pc) (length p.code - (pc + 1)) e, exists p pc x))
 
   -- so a companion up to there is one of them
@@ -145,7 +145,6 @@ flat_map_next f i n =
 
 -- at `at`, those before it were looked at
 pub record BindingPass (q : Prototype) (code records : List ℕ) (pc : ℕ) (s₀ s : State) (at : ℕ) : Type 0 where
-  pub long : length s.1 ≡ length s₀.1
   pub later : pc < at
   pub within : (p : Proto) → Describes p q code records → Executable p pc → T (is (word_at p pc) (CLOSURE ∷ [])) → at ≤ pc + 1 + binding_words p pc
   pub done : (p : Proto) → Describes p q code records → Executable p pc → T (is (word_at p pc) (CLOSURE ∷ []))
@@ -165,7 +164,6 @@ module _ (q : Prototype) (code records : List ℕ) (pc : ℕ) (s₀ : State) whe
   unfolding flat_map
   pass_begins =
       record {
-        long = refl;
         later = omega arith;
         within = λ p d x t. omega arith;
         done = λ p d x t. (let z : pc + 1 - (pc + 1) ≡ 0 = omega arith in rw z (emits_none q.row s₀));
@@ -176,16 +174,15 @@ module _ (q : Prototype) (code records : List ℕ) (pc : ℕ) (s₀ : State) whe
     role_there : (p : Proto) → Describes p q code records → (c : Bool) → b ≡ not c → is_executable (role_at p at) ≡ c
     role_there p d c e = looked_up p q code records d at b c looked e
 
-    pub pass_next : b ≡ true → (t : State) (w : ℕ) → length t.1 ≡ length s.1 → w ≡ u32_at code (4 * at) → t ≡ emit_all q.row (binding_adds q at w) s → BindingPass q code records pc s₀ t (at + 1)
-    pass_next e t w size read added =
+    pub pass_next : b ≡ true → (t : State) (w : ℕ) → w ≡ u32_at code (4 * at) → t ≡ emit_all q.row (binding_adds q at w) s → BindingPass q code records pc s₀ t (at + 1)
+    pass_next e t w read added =
         record {
-          long = size ∙ pass.long;
           later = omega (arith, pass.later);
           within = λ p d x c. omega (arith, binding_before p pc x c at (pass.within p d x c) (role_there p d false e));
           done = λ p d x c.
               let row = q.row in
               let f : ℕ → List Diagnostic = binding_diagnostics p in
-              let there : at < length code / 4 = omega (arith, companion_exists p at (role_there p d false e), words_of p q code records d) in
+              let there : at < length code / 4 = omega (arith, companion_exists p at (role_there p d false e), words_of_lem p q code records d) in
               let count : at + 1 - (pc + 1) ≡ at - (pc + 1) + 1 = omega (arith, pass.later) in
               let here : pc + 1 + (at - (pc + 1)) ≡ at = omega (arith, pass.later) in
               emits_then row (flat_map f (up_from (pc + 1) (at - (pc + 1)))) (f at) s₀ s t (pass.done p d x c) (added ∙ ap (λ (ds : List Diagnostic). emit_all row ds s) (binding_by p q code records d at w there read))

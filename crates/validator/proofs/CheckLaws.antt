@@ -8,7 +8,7 @@ use Rattle.chunk.specs.Calls.{answer, refused, accepted, filled, roles_answer, r
 use Rattle.chunk.specs.Refusals.{Refused, or_else, refuse, refuse_if, too_short, roles_refusal, word_total}
 use Rattle.chunk.specs.Roles.{role_at, role_bytes, records_of, roles}
 use Rattle.chunk.specs.Table.{Row, Proto, row_bytes, row_at, rows, protos, protos_of, proto_of}
-use Rattle.roles.specs.Contracts.{refused_of, answer_of as rolesAnswerOf, proto_in, role_in}
+use Rattle.roles.specs.Terms.{refused_of, answer_of as rolesAnswerOf, proto_in, role_in}
 use Rattle.roles.specs.declared.calls.Answer.{Answer as Answered}
 use Rattle.roles.specs.declared.calls.Answer.TheVariants as answered
 use Rattle.roles.specs.declared.refusals.Refusal.{Refusal}
@@ -25,7 +25,7 @@ use Rattle.verdict.specs.Statements.{Accepted, Guarantee}
 use Rattle.verdict.specs.Walk.{max_diagnostics, diagnostic_fields, diagnostic_bytes}
 use Rattle.verdict.proofs.GuaranteeLaws.{check_guaranteed}
 use Rattle.verdict.proofs.LimitLaws.{at_most}
-use Rattle.validator.specs.Contracts.{answer_of, concluded, image_of}
+use Rattle.validator.specs.Terms.{answer_of, concluded, image_of}
 use Rattle.validator.specs.Steps.{State, Filled, Ready, Walked, step_row, walk_to}
 use Rattle.validator.specs.declared.calls.Validation.{Validation}
 use Rattle.validator.specs.declared.calls.Validation.TheVariants as validation

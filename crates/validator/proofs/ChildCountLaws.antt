@@ -1,5 +1,5 @@
 -- The children of each row, counted from the last row to the first, and a prototype by its fields. Assumes nothing.
-use Rattle.std.proofs.Common.{◌≡◌, ℕ, zero, suc, ◌+◌, ◌/◌, ◌<◌, ◌≤◌, Bool, true, false, eqb, ltb, List, ◌∷◌, length, get_or, drop, set, replicate, sym, refl, ap, ◌∙◌, subst, add-one, arith, length-drop, length-set, drop_of_length-le, get_or-set_other, get_or-set_same, ltb-false, ltb-true, eqb-true}
+use Rattle.std.proofs.Common.{◌≡◌, ℕ, zero, suc, ◌+◌, ◌/◌, ◌<◌, ◌≤◌, Bool, true, false, eqb, ltb, List, ◌∷◌, length, get_or, drop, set, replicate, sym, refl, ap, ◌∙◌, add-one, arith, length-drop, length-set, drop_of_length-le, get_or-set_other, get_or-set_same, ltb-false, ltb-true, eqb-true}
 use mathlib.Core.Option.{none}
 use lib.ListN.{length-replicate, get_or-replicate}
 use borrow.Author.Tests.{eqb-false}
@@ -9,7 +9,7 @@ use Rattle.opcodes.specs.Lists.{take_while}
 use Rattle.opcodes.proofs.ListLaws.{select_most, take_while_most}
 use Rattle.chunk.proofs.RefusalLaws.{depth_kept}
 use Rattle.chunk.proofs.TableLaws.{length_rows, drop_rows, children_end, children_found, children_deeper}
-use Rattle.validator.specs.Contracts.{child_count, ChildCounts, Ordered, Counted, prototype_of}
+use Rattle.validator.specs.Terms.{child_count, Ordered, Counted, prototype_of}
 
 -- how many children of a row of this depth stand in the rows from i on
 abbrev from : List ℕ → ℕ → ℕ → ℕ
@@ -79,18 +79,12 @@ counts_begin table counts pending row e room zeros =
       roots = omega (arith, none 0 (omega arith));
     }
 
-pub counts_at : (table counts pending : List ℕ) (row m : ℕ) → m ≡ row → Counted table row counts pending → Counted table m counts pending
-counts_at table counts pending row m e v = subst (λ (n : ℕ). Counted table n counts pending) (sym e) v
-
-pub counts_end : (table counts pending : List ℕ) (row : ℕ) → row ≤ 0 → Counted table row counts pending → ChildCounts table counts
-counts_end table counts pending row h v = record { room = v.room; counted = λ i l. v.counted i (omega arith) l }
-
 module _ (table counts pending : List ℕ) (row : ℕ) (ordered : Ordered table) (there : row < length table / row_bytes) (v : Counted table (row + 1) counts pending) (d : ℕ) (e : d ≡ field_at table row 0) where
   here : (row_at table row).depth ≡ d
   unfolding row_at
   here = sym e
 
-  pub shallow : d ≤ 199
+  shallow : d ≤ 199
   shallow = omega (arith, here, (row_depth table ordered.depths row there).limit)
 
   -- so many are one deeper

@@ -1,26 +1,26 @@
 -- A word that passes the fast test has no diagnostics: what its opcode has in the table, and what the tests with it say of its operands and of where it
 -- goes. Assumes nothing.
-use Rattle.std.proofs.Common.{◌≡◌, ℕ, zero, suc, ◌+◌, ◌-◌, ◌*◌, ◌/◌, ◌%◌, ◌<◌, ◌≤◌, Bool, true, false, not, ◌&&◌, ◌||◌, T, eqb, ltb, leb, List, [], ◌∷◌, length, get_or, pos, ◌-ℤ◌, sym, refl, ap, ◌∙◌, subst, not-suc-le-zero, arith, eqb→eq, ltb→lt, leb→le, ltb-false, ltb-true, le-ltb, eqb-true, leb-false, leb-true}
+use Rattle.std.proofs.Common.{◌≡◌, ℕ, zero, suc, ◌+◌, ◌-◌, ◌*◌, ◌/◌, ◌%◌, ◌<◌, ◌≤◌, Bool, true, false, not, ◌&&◌, ◌||◌, T, eqb, ltb, leb, List, [], ◌∷◌, length, get_or, pos, ◌-ℤ◌, sym, refl, ap, ◌∙◌, subst, not-suc-le-zero, arith, eqb→eq, ltb→lt, leb→le, ltb-true, le-ltb, eqb-true, leb-false, leb-true}
 use mathlib.Core.Path.{subst⁻¹}
 use mathlib.Core.Bool.{and-false}
 use borrow.Author.Tests.{eqb-false}
 use Rattle.opcodes.specs.Bytes.{u32_at}
 use Rattle.opcodes.specs.Lists.{elem, every, only, up_from, all_nil, all_cons}
-use Rattle.opcodes.specs.Words.{Field, B, C, decoded, opcode, operand, field_a, field_bx, is, is_constant, constant_index, without_a, with_sbx, LOADK, GETGLOBAL, SETGLOBAL, GETUPVAL, SETUPVAL, EQ, Lt, Le, SELF, FORPREP, FORLOOP, TFORLOOP, CALL, TAILCALL, RETURN, VARARG, SETLIST, CLOSURE, LOADBOOL}
+use Rattle.opcodes.specs.Words.{Field, B, C, decoded, opcode, operand, field_a, field_bx, is, is_constant, constant_index, without_a, with_sbx, LOADK, GETGLOBAL, SETGLOBAL, GETUPVAL, SETUPVAL, EQ, LT, LE, SELF, FORPREP, FORLOOP, TFORLOOP, CALL, TAILCALL, RETURN, VARARG, SETLIST, CLOSURE, LOADBOOL}
 use Rattle.opcodes.specs.declared.RawInstruction51.{RawInstruction51}
 use Rattle.opcodes.proofs.AllLaws.{all_flatten}
 use Rattle.opcodes.proofs.FieldLaws.{operand_below}
-use Rattle.opcodes.proofs.TestLaws.{T_and, T_true, T_false, double_not, true≢false, by_or}
+use Rattle.opcodes.proofs.TestLaws.{t_and, t_true, t_false, double_not, by_or}
 use Rattle.chunk.specs.Roles.{Role, Executable, executable_at, is_executable, role_at, word_at, binding_words}
 use Rattle.chunk.specs.Table.{Proto}
 use Rattle.chunk.proofs.RoleLaws.{executable}
-use Rattle.roles.specs.Contracts.{role_in}
-use Rattle.verdict.specs.Operands.{is_jump, is_skip, is_loadbool_skip, target, skip_target, constant_bx, upvalue_b, flag_a, register_a, span_ends, register_in, constant_in, child_bx, is_unknown}
+use Rattle.roles.specs.Terms.{role_in}
+use Rattle.verdict.specs.Operands.{is_jump, is_skip, is_loadbool_skip, skip_target, constant_bx, upvalue_b, flag_a, register_a, span_ends, register_in, constant_in, child_bx, is_unknown}
 use Rattle.verdict.specs.Rules.{Below, Lands, JumpKept, BindingKept, registers_of, constants_of}
 use Rattle.verdict.specs.Diagnostics.{diagnostics_at}
 use Rattle.verdict.proofs.RuleLaws.{known_none}
 use Rattle.validator.specs.Clean.{FlowKept, OperandsBelow, limits_of, shapes}
-use Rattle.validator.specs.Contracts.{Describes, Limits, Stands}
+use Rattle.validator.specs.Terms.{Describes, Limits, Stands}
 use Rattle.validator.specs.declared.prototype.Prototype.{Prototype}
 use Rattle.validator.proofs.DescribedLaws.{looked_up, word_read}
 use Rattle.validator.proofs.FaultLaws.{raw_of, split_again}
@@ -35,7 +35,7 @@ use Rattle.validator.proofs.WordLaws.{target_sum}
 has : (ops : List ℕ) (f : ℕ → ℕ) (k n : ℕ) → T (every (λ m. eqb (f m) k) ops) → T (elem n ops) → f n ≡ k
 has [] f k n a t = absurd t
 has (m ∷ ops) f k n a t =
-    let both = T_and (eqb (f m) k) (every (λ i. eqb (f i) k) ops) a in
+    let both = t_and (eqb (f m) k) (every (λ i. eqb (f i) k) ops) a in
     by_or (eqb n m) (elem n ops) (λ e. ap f (eqb→eq n m e) ∙ eqb→eq (f m) k both.0) (has ops f k n both.1) t
 
 -- every opcode up to the last
@@ -44,7 +44,7 @@ up_to f i zero n a l h = absurd (omega arith)
 up_to f i (suc k) n a l h = go (eqb i n) refl (λ g. up_to f (suc i) k n both.1 g (omega arith))
   where
     both : T (f i) × T (every f (up_from (suc i) k))
-    both = T_and (f i) (every f (up_from (suc i) k)) a
+    both = t_and (f i) (every f (up_from (suc i) k)) a
 
     go : (b : Bool) → eqb i n ≡ b → (suc i ≤ n → T (f n)) → T (f n)
     go true e rest = subst (λ (m : ℕ). T (f m)) (eqb-true i n e) both.0
@@ -72,13 +72,13 @@ module _ (q : Prototype) (w : ℕ) where
   module _ (h : ltb (field_a w) (limit (shape (opcode w) % 16)) ≡ true) where
     flag : Below 2 (flag_a w)
     unfolding flag_a is shapes limits_of
-    flag = below_if _ _ _ (λ t. at _ _ 8 h (has (EQ ∷ Lt ∷ Le ∷ []) (λ n. shape n % 16) 8 (opcode w) tt t))
+    flag = below_if _ _ _ (λ t. at _ _ 8 h (has (EQ ∷ LT ∷ LE ∷ []) (λ n. shape n % 16) 8 (opcode w) tt t))
 
     register : opcode w < 38 → Below q.stack (register_a w)
     unfolding register_a is shapes limits_of
     register known =
         below_if _ _ _ (λ t.
-        let rest = T_false (elem (opcode w) without_a) (T_and (not (is_unknown w)) (not (elem (opcode w) without_a)) t).1 in
+        let rest = t_false (elem (opcode w) without_a) (t_and (not (is_unknown w)) (not (elem (opcode w) without_a)) t).1 in
         let place = up_to (λ n. elem n without_a || eqb (shape n % 16) 2) 0 38 (opcode w) tt (omega arith) known in
         at _ _ 2 h (eqb→eq (shape (opcode w) % 16) 2 (subst (λ (b : Bool). T (b || eqb (shape (opcode w) % 16) 2)) rest place)))
 
@@ -115,8 +115,8 @@ module _ (q : Prototype) (w : ℕ) where
           (by_or (is w f.fixed) (is w f.rk && not (leb 256 (operand f w)))
           (λ t. plain 2 (fixed t) refl)
           (λ t.
-          let both = T_and (is w f.rk) (not (leb 256 (operand f w))) t in
-          let low = leb-false 256 (operand f w) (T_false (leb 256 (operand f w)) both.1) in
+          let both = t_and (is w f.rk) (not (leb 256 (operand f w))) t in
+          let low = leb-false 256 (operand f w) (t_false (leb 256 (operand f w)) both.1) in
           let same : operand f w % 256 ≡ operand f w = omega arith in
           let place-4 = rk both.0 in
           subst (λ (n : ℕ). n < q.stack) same (at (operand f w % 256) (place + operand f w / 256) 4 h (omega arith))))
@@ -125,11 +125,11 @@ module _ (q : Prototype) (w : ℕ) where
       unfolding constant_in is_constant constant_index limits_of
       field_constant =
           below_if _ _ _ (λ t.
-          let both = T_and (is w f.rk) (leb 256 (operand f w)) t in
+          let both = t_and (is w f.rk) (leb 256 (operand f w)) t in
           let high = leb→le 256 (operand f w) both.1 in
           let same : operand f w % 256 ≡ operand f w - 256 = omega (arith, operand_below f w) in
           let place-4 = rk both.0 in
-          rw (T_true (leb 256 (operand f w)) both.1) (subst (λ (n : ℕ). n < q.constants) same (at (operand f w % 256) (place + operand f w / 256) 5 h (omega (arith, operand_below f w)))))
+          rw (t_true (leb 256 (operand f w)) both.1) (subst (λ (n : ℕ). n < q.constants) same (at (operand f w % 256) (place + operand f w / 256) 5 h (omega (arith, operand_below f w)))))
 
   upvalue : ltb (operand B w % 256) (limit (shape (opcode w) / 256 % 16 + operand B w / 256)) ≡ true → Below q.upvalues (upvalue_b w)
   unfolding upvalue_b is shapes limits_of
@@ -147,7 +147,7 @@ module _ (q : Prototype) (w : ℕ) where
     by_c ops k a t = subst (λ (i : ℕ). field_a w + i / 2 + i % 2 * operand C w ≤ q.stack + 1) (has ops (λ n. shape n / 1048576 % 16) k (opcode w) a t) (leb-true _ _ g)
 
     both : (ops : List ℕ) (least x : ℕ) → T (is w ops && ltb least x) → T (is w ops) × (least < x)
-    both ops least x t = let s = T_and (is w ops) (ltb least x) t in (s.0, ltb→lt least x s.1)
+    both ops least x t = let s = t_and (is w ops) (ltb least x) t in (s.0, ltb→lt least x s.1)
 
     spans : Below q.stack (span_ends w)
     unfolding span_ends shapes
@@ -185,25 +185,6 @@ module _ (q : Prototype) (w : ℕ) where
       }
 
 -- ---- as the code has them
-
--- a test that did not fail
-pub passed : (b t : Bool) → b ≡ t → not b ≡ false → t ≡ true
-passed true t e f = sym e
-passed false t e f = true≢false f
-
--- a bit times a number
-pub once : (s n : ℕ) → s % 2 * n ≤ n
-once s n = go (s % 2) (omega arith)
-  where
-    go : (b : ℕ) → b < 2 → b * n ≤ n
-    go zero h = omega arith
-    go (suc zero) h = omega arith
-    go (suc (suc b)) h = absurd (omega arith)
-
--- and one that did
-pub failed : (b : Bool) → not b ≡ true → b ≡ false
-failed true e = sym e
-failed false e = refl
 
 -- the places are in the list, and a word goes one of 16 ways
 bounded : (f : ℕ → ℕ) (k n : ℕ) → T (every (λ m. ltb (f m) k) (up_from 0 38)) → n < 38 → f n < k
@@ -285,7 +266,7 @@ module _ (p : Proto) (pc : ℕ) (k : FlowKept p (shape (opcode (word_at p pc)) /
       record {
         target = λ t. subst (Lands p) (sym (target_sum pc (word_at p pc))) (k.target (has with_sbx flow 1 (opcode (word_at p pc)) tt t));
         skip = by_or (is (word_at p pc) skips) (is (word_at p pc) (LOADBOOL ∷ []) && ltb 0 (operand C (word_at p pc))) (ahead skips 2 tt)
-            (λ t. ahead (LOADBOOL ∷ []) 2 tt (T_and (is (word_at p pc) (LOADBOOL ∷ [])) (ltb 0 (operand C (word_at p pc))) t).0);
+            (λ t. ahead (LOADBOOL ∷ []) 2 tt (t_and (is (word_at p pc) (LOADBOOL ∷ [])) (ltb 0 (operand C (word_at p pc))) t).0);
       }
 
   -- it has no binding words
@@ -296,7 +277,7 @@ module _ (p : Proto) (pc : ℕ) (k : FlowKept p (shape (opcode (word_at p pc)) /
       go : (b : Bool) → is (word_at p pc) (CLOSURE ∷ []) ≡ b → binding_words p pc ≡ 0
       go true e =
           let t : T (is (word_at p pc) (CLOSURE ∷ [])) = subst⁻¹ T e tt in
-          let end = bindings_end p pc x t (pc + 1) (omega arith) (omega arith) (T_true _ (ahead (CLOSURE ∷ []) 0 tt t)) in
+          let end = bindings_end p pc x t (pc + 1) (omega arith) (omega arith) (t_true _ (ahead (CLOSURE ∷ []) 0 tt t)) in
           omega (arith, end)
       go false e = only_closures p pc e
 
@@ -313,15 +294,6 @@ module _ (p : Proto) (q : Prototype) (roles : List ℕ) (h : Stands p q roles) w
 
   pub lands : (sum : ℕ) → 131071 ≤ sum → sum - 131071 < q.words → (b : Bool) → b ≡ not (is_executable (role_in roles (sum - 131071))) → not b ≡ true → Lands p (pos sum -ℤ pos 131071)
   lands sum l m b e t = rw (le-ltb sum 131071 l) (executable p (sum - 131071) (omega (arith, h.words)) (stands (sum - 131071) b e t))
-
-  pub goes_on : (way pc bx : ℕ) → way ≡ 0 → FlowKept p way pc bx
-  goes_on way pc bx e = record { target = λ f. absurd (omega arith); ahead = λ k f. absurd (omega arith) }
-
-  pub goes_to : (way pc bx : ℕ) → way ≡ 1 → Lands p (pos (pc + 1 + bx) -ℤ pos 131071) → FlowKept p way pc bx
-  goes_to way pc bx e l = record { target = λ f. l; ahead = λ k f. absurd (omega arith) }
-
-  pub goes_ahead : (way pc bx : ℕ) → (way ≡ 1 → ⊥) → (b : Bool) → b ≡ not (is_executable (role_in roles (pc + way / 2))) → not b ≡ true → FlowKept p way pc bx
-  goes_ahead way pc bx f b e t = record { target = λ g. absurd (f g); ahead = λ k g. stands (pc + way / 2) b e t }
 
 -- ---- the word
 
@@ -364,14 +336,3 @@ pub record CleanPass (q : Prototype) (code roles : List ℕ) (from pc : ℕ) : T
   pub later : from ≤ pc
   pub within : pc ≤ length code / 4
   pub none : (p : Proto) → Describes p q code roles → (i : ℕ) → from ≤ i → i < pc → diagnostics_at p i ≡ []
-
-module _ (q : Prototype) (code roles : List ℕ) (from : ℕ) where
-  pub pass_begins : from ≤ length code / 4 → CleanPass q code roles from from
-  pass_begins h = record { later = omega arith; within = h; none = λ p d i l m. absurd (omega arith) }
-
-  pub pass_next : (pc : ℕ) → CleanPass q code roles from pc → pc < length code / 4 → ((p : Proto) → Describes p q code roles → diagnostics_at p pc ≡ []) → CleanPass q code roles from (pc + 1)
-  pass_next pc v h f = record { later = omega (arith, v.later); within = omega arith; none = λ p d i l m. go p d i l m (ltb i pc) refl }
-    where
-      go : (p : Proto) → Describes p q code roles → (i : ℕ) → from ≤ i → i < pc + 1 → (b : Bool) → ltb i pc ≡ b → diagnostics_at p i ≡ []
-      go p d i l m true e = v.none p d i l (ltb-true i pc e)
-      go p d i l m false e = let last : pc ≡ i = omega (arith, ltb-false i pc e) in subst (λ (n : ℕ). diagnostics_at p n ≡ []) last (f p d)

@@ -2,9 +2,9 @@
 use Rattle.std.proofs.Common.{◌≡◌, ℕ, ◌+◌, ◌/◌, ◌<◌, ◌≤◌, true, false, List, length, drop, sym, ap, ◌∙◌, subst, ap₂, arith}
 use Rattle.opcodes.specs.Bytes.{u32s}
 use Rattle.chunk.specs.Table.{row_bytes, row_at}
-use Rattle.roles.specs.Contracts.{proto_in}
+use Rattle.roles.specs.Terms.{proto_in}
 use Rattle.verdict.specs.Diagnostics.{proto_steps}
-use Rattle.validator.specs.Contracts.{prototype_of}
+use Rattle.validator.specs.Terms.{prototype_of}
 use Rattle.validator.specs.Steps.{State, Ready, tested_of, moved_to, own_steps, step_row, walk_to}
 use Rattle.validator.specs.declared.prototype.Prototype.{Prototype}
 use Rattle.validator.specs.declared.walk.WalkState.{WalkState}

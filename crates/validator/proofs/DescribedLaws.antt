@@ -4,8 +4,8 @@ use Rattle.opcodes.specs.Bytes.{u32_at}
 use Rattle.opcodes.proofs.ByteLaws.{get_d_u32s, length_u32s}
 use Rattle.chunk.specs.Roles.{Role, is_executable, role_at, word_at}
 use Rattle.chunk.specs.Table.{Proto}
-use Rattle.roles.specs.Contracts.{role_in}
-use Rattle.validator.specs.Contracts.{Describes}
+use Rattle.roles.specs.Terms.{role_in}
+use Rattle.validator.specs.Terms.{Describes}
 use Rattle.validator.specs.declared.prototype.Prototype.{Prototype}
 
 not_same : (a b : Bool) → not a ≡ not b → a ≡ b
@@ -15,8 +15,8 @@ not_same false true e = sym e
 not_same false false e = refl
 
 module _ (p : Proto) (q : Prototype) (code records : List ℕ) (d : Describes p q code records) where
-  pub words_of : length code / 4 ≡ length p.code
-  words_of = sym (ap length d.code ∙ length_u32s code)
+  pub words_of_lem : length code / 4 ≡ length p.code
+  words_of_lem = sym (ap length d.code ∙ length_u32s code)
 
   pub word_read : (pc : ℕ) → pc < length code / 4 → u32_at code (4 * pc) ≡ word_at p pc
   unfolding word_at

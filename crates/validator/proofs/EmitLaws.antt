@@ -1,31 +1,14 @@
 -- Diagnostics added one after another. Assumes nothing.
-use Rattle.std.proofs.Common.{◌≡◌, ℕ, suc, ◌+◌, ◌-◌, ◌*◌, ◌%◌, ◌^◌, ◌<◌, ◌≤◌, Bool, true, false, not, ◌&&◌, ◌||◌, leb, List, [], ◌∷◌, ◌++◌, pos, negsuc, sym, refl, ap, ◌∙◌, true≢false, append_assoc, eq-eqb, ne_eqb, le-leb}
-use mathlib.Core.Bool.{or-true, or-false as Bool·or-false, false≢true}
+use Rattle.std.proofs.Common.{◌≡◌, ℕ, suc, ◌-◌, Bool, true, false, ◌&&◌, ◌||◌, leb, List, [], ◌∷◌, ◌++◌, pos, negsuc, sym, refl, ap, ◌∙◌, append_assoc}
 use mathlib.Core.List.{flatten, foldl-append}
-use borrow.Author.Tests.{lt-leb}
-use Rattle.opcodes.specs.Bytes.{u32_record, i32_bits, overwrite}
+use Rattle.opcodes.specs.Bytes.{i32_bits}
 use Rattle.opcodes.specs.Lists.{only}
 use Rattle.opcodes.proofs.TestLaws.{or-false}
 use Rattle.verdict.specs.Diagnostics.{Diagnostic, diagnostic, not_below, tested_step}
-use Rattle.verdict.specs.Walk.{diagnostic_bytes}
 use Rattle.validator.specs.declared.walk.WalkState.{WalkState}
 use Rattle.validator.specs.Steps.{State, emitted, emitted_if, emit, emit_all, ended, tested_of, advance}
 
 -- ---- one
-
--- counted and written: an error, and a warning
-module _ (s : State) (row pc code value n : ℕ) (new : List ℕ)
-    (counted : n ≡ (s.0.count + 1) % 2 ^ 32)
-    (stored : new ≡ overwrite s.1 (diagnostic_bytes * s.0.count) (u32_record (row ∷ pc ∷ code ∷ value ∷ []))) where
-  pub emitted_error : (code ≡ 3 → ⊥)
-      → ◌≡◌ {A = State} (record { row = s.0.row; first = s.0.first; stop = s.0.stop; count = n; error = true; limit = s.0.limit }, new) (emitted row pc code value s)
-  unfolding emitted
-  emitted_error f = rw (counted, stored, ne_eqb code 3 f, or-true)
-
-  pub emitted_warning : code ≡ 3
-      → ◌≡◌ {A = State} (record { row = s.0.row; first = s.0.first; stop = s.0.stop; count = n; error = s.0.error; limit = s.0.limit }, new) (emitted row pc code value s)
-  unfolding emitted
-  emitted_warning e = rw (counted, stored, eq-eqb code 3 e, Bool·or-false)
 
 -- a diagnostic of a word, with a value that is not negative
 pub emits_word : (row pc code value : ℕ) (s : State) → emitted row pc code value s ≡ emit_all row (diagnostic pc code (pos value) ∷ []) s
@@ -90,28 +73,7 @@ emits_over row pc code limit value s named over e = rw e (go named (leb limit va
     go true false q = rw q (emits_none row s)
     go false b q = emits_none row s
 
--- ---- a condition, by the answer of its negation
-
-module _ (row pc code value : ℕ) (s : State) where
-  pub not_hit : (b : Bool) → not b ≡ true → s ≡ emitted_if b row pc code value s
-  unfolding emitted_if
-  not_hit true e = absurd (false≢true e)
-  not_hit false e = refl
-
-  pub hit : (b : Bool) (t : State) → not b ≡ false → t ≡ emitted row pc code value s → t ≡ emitted_if b row pc code value s
-  unfolding emitted_if
-  hit true t e f = f
-  hit false t e f = absurd (true≢false e)
-
 -- ---- after a test
-
-pub test_ends : (w : WalkState) → w.stop ≤ w.count → ended w ≡ tested_of w
-unfolding tested_of
-test_ends w h = rw (le-leb w.stop w.count h, or-true w.limit)
-
-pub test_passes : (w : WalkState) → w.count < w.stop → w ≡ tested_of w
-unfolding tested_of
-test_passes w h = rw (lt-leb w.stop w.count h) (λ i. record { row = w.row; first = w.first; stop = w.stop; count = w.count; error = w.error; limit = sym (Bool·or-false w.limit) i })
 
 -- the test is that of `advance`
 pub tests : (w t : WalkState) (b : Bool) → t ≡ tested_of w → t.limit ≡ b → (w.limit || leb w.stop w.count) ≡ b

@@ -12,15 +12,15 @@ use Rattle.opcodes.proofs.AllLaws.{all_append, all_at, all_up_from, all_up_to, f
 use Rattle.opcodes.proofs.ListLaws.{length_tabulate, up_from_append, flat_map_append}
 use Rattle.chunk.specs.Table.{Proto, row_at, rows, child_at}
 use Rattle.chunk.specs.Roles.{Role, Instruction, ClosureBinding, SetlistExtra, is_executable, executable_at, Executable, binding_count, has_extra, claims, role_at, word_at, owned, existing, companions, is_truncated}
-use Rattle.roles.specs.Contracts.{child_from, child_of_row, proto_in, role_in}
+use Rattle.roles.specs.Terms.{child_from, child_of_row, proto_in, role_in}
 use Rattle.roles.specs.declared.table.Child.{Child}
 use Rattle.roles.specs.declared.table.Child.TheVariants as child
 use Rattle.chunk.proofs.RoleLaws.{executable_role, exists, role, executable, first_executable, next_executable, owned_count, owned_role}
 use Rattle.roles.proofs.OwnerLaws.{has_opcode, has_other}
 use Rattle.roles.proofs.SearchLaws.{FoundChild, found_child, missing, no_upvalues, anew}
 use Rattle.verdict.specs.Diagnostics.{diagnostic, truncation_at}
-use Rattle.validator.specs.Contracts.{Describes, last_owner, fault_diagnostics, prototype_of}
-use Rattle.validator.proofs.DescribedLaws.{word_read, words_of}
+use Rattle.validator.specs.Terms.{Describes, last_owner, fault_diagnostics, prototype_of}
+use Rattle.validator.proofs.DescribedLaws.{word_read, words_of_lem}
 use Rattle.validator.specs.declared.fault.Lua51RoleFault.TheVariants as fault
 use Rattle.validator.specs.declared.prototype.Prototype.{Prototype}
 
@@ -241,7 +241,7 @@ module _ (table : List ℕ) (q : Prototype) (same : q ≡ prototype_of table q.r
     module _ (o w m : ℕ) (r : RawInstruction51) (place : o ≡ last_owner (size - 1) (role_in records (size - 1))) (read : w ≡ u32_at code (4 * o)) (split : r ≡ decoded w)
         (count : (pc : ℕ) (words : List ℕ) → m ≡ length (claims (proto_in table q.row words) pc r.raw)) where
       words_are : length proto.code ≡ size
-      words_are = sym (words_of proto q code records d)
+      words_are = sym (words_of_lem proto q code records d)
 
       place_is : o ≡ last_owner (size - 1) (role_at proto (size - 1))
       place_is = place ∙ ap (last_owner (size - 1)) (d.stands.roles (size - 1))

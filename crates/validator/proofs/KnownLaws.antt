@@ -10,7 +10,7 @@ use Rattle.chunk.specs.Roles.{word_at, binding_words}
 use Rattle.chunk.specs.Table.{Proto}
 use Rattle.verdict.specs.Diagnostics.{opcode_diagnostics, jump_diagnostics, skip_diagnostics, operand_diagnostics, binding_diagnostics, known_diagnostics, word_diagnostics}
 use Rattle.verdict.specs.Operands.{is_unknown}
-use Rattle.validator.specs.Contracts.{Decodes}
+use Rattle.validator.specs.Terms.{Decodes}
 use Rattle.validator.specs.Steps.{State, emitted, emit_all}
 use Rattle.validator.proofs.BindingLaws.{only_closures}
 use Rattle.validator.proofs.EmitLaws.{emits_word, emits_none, emits_cons, emits_end, emits_join}

@@ -1,26 +1,23 @@
 -- A word that was split and whose opcode is known: its tests and operands, by the arm that the opcode came to. Assumes nothing.
 use Rattle.std.proofs.Common.{◌≡◌, ℕ, ◌+◌, ◌-◌, ◌<◌, Bool, true, false, ◌&&◌, T, ltb, ◌⊎◌, List, [], ◌∷◌, ◌++◌, sym, refl, ap, ◌∙◌, subst, ap₂, ⊎_elim, append-nil, arith, le-ltb}
 use mathlib.Core.List.{flatten}
-use denote.Enum.Declared.{tag_of}
 use Rattle.opcodes.specs.Lists.{elem, only}
-use Rattle.opcodes.specs.Words.{Field, B, C, opcode, operand, field_a, field_bx, is, decoded, opcode_of, number_of, is_fixed_register, is_rk, SELF, FORPREP, FORLOOP, TFORLOOP, CALL, TAILCALL, RETURN, VARARG, SETLIST, LOADBOOL, EQ, Lt, Le, TEST, TESTSET}
+use Rattle.opcodes.specs.Words.{Field, B, C, opcode, operand, field_a, field_bx, is, decoded, opcode_of, number_of, is_fixed_register, is_rk, SELF, FORPREP, FORLOOP, TFORLOOP, CALL, TAILCALL, RETURN, VARARG, SETLIST, LOADBOOL, EQ, LT, LE, TEST, TESTSET}
 use Rattle.opcodes.specs.declared.Opcode51.{Opcode51}
 use Rattle.opcodes.specs.declared.OpcodeField.TheVariants.{Known}
 use Rattle.opcodes.specs.declared.RawInstruction51.{RawInstruction51}
-use Rattle.opcodes.proofs.Arms.{tag_number}
-use Rattle.opcodes.specs.contracts.Opcode51.{the_type}
 use Rattle.opcodes.proofs.FieldLaws.{field_below}
 use Rattle.opcodes.proofs.OpcodeLaws.{known_below, known_number}
 use Rattle.opcodes.proofs.TestLaws.{subset, is_among}
 use Rattle.verdict.specs.Operands.{is_unknown, is_skip, is_loadbool_skip, span_ends}
-use Rattle.validator.specs.Contracts.{Decodes, ends, operand_field}
+use Rattle.validator.specs.Terms.{Decodes, ends, operand_field}
 use Rattle.validator.specs.declared.operands.OperandField.{OperandField}
 use Rattle.validator.specs.declared.operands.Span.{Span}
 use Rattle.validator.specs.declared.operands.Span.TheVariants.{None, To}
 
 -- the opcodes that always may skip
 abbrev pub skips : List ℕ
-skips = EQ ∷ Lt ∷ Le ∷ TEST ∷ TESTSET ∷ TFORLOOP ∷ []
+skips = EQ ∷ LT ∷ LE ∷ TEST ∷ TESTSET ∷ TFORLOOP ∷ []
 
 -- ---- the opcode and the fields
 
@@ -118,38 +115,38 @@ abbrev pub spanning : List ℕ
 spanning = SELF ∷ CALL ∷ TAILCALL ∷ RETURN ∷ FORLOOP ∷ FORPREP ∷ TFORLOOP ∷ SETLIST ∷ VARARG ∷ []
 
 module _ (op : Opcode51) (w : RawInstruction51) (d : Decodes op w) where
-  spans_of : (n : ℕ) → tag_of the_type op ≡ n → spans n w.a w.b w.c ≡ span_ends w.raw
+  spans_of : (n : ℕ) → number_of op ≡ n → spans n w.a w.b w.c ≡ span_ends w.raw
   unfolding span_ends is
   spans_of n e =
-      let q : n ≡ opcode w.raw = sym e ∙ tag_number op ∙ sym (number op w d) in
+      let q : n ≡ opcode w.raw = sym e ∙ sym (number op w d) in
       rw (q, split_a w d.split, split_b w d.split, split_c w d.split)
 
   module _ (first second : Span) where
-    pub span_self : tag_of the_type op ≡ SELF → ends first ++ ends second ≡ ends (To (w.a + 1)) → ends first ++ ends second ≡ span_ends w.raw
+    pub span_self : number_of op ≡ SELF → ends first ++ ends second ≡ ends (To (w.a + 1)) → ends first ++ ends second ≡ span_ends w.raw
     unfolding ends flatten only
     span_self e f = f ∙ spans_of SELF e
 
-    pub span_for : (tag_of the_type op ≡ FORPREP) ⊎ (tag_of the_type op ≡ FORLOOP) → ends first ++ ends second ≡ ends (To (w.a + 3)) → ends first ++ ends second ≡ span_ends w.raw
+    pub span_for : (number_of op ≡ FORPREP) ⊎ (number_of op ≡ FORLOOP) → ends first ++ ends second ≡ ends (To (w.a + 3)) → ends first ++ ends second ≡ span_ends w.raw
     unfolding ends flatten only
     span_for e f = f ∙ ⊎_elim (spans_of FORPREP) (spans_of FORLOOP) e
 
-    pub span_tforloop : tag_of the_type op ≡ TFORLOOP → ends first ++ ends second ≡ ends (To (w.a + 2 + w.c)) → ends first ++ ends second ≡ span_ends w.raw
+    pub span_tforloop : number_of op ≡ TFORLOOP → ends first ++ ends second ≡ ends (To (w.a + 2 + w.c)) → ends first ++ ends second ≡ span_ends w.raw
     unfolding ends flatten only
     span_tforloop e f = f ∙ spans_of TFORLOOP e
 
-    pub span_call : tag_of the_type op ≡ CALL → ends first ≡ only (ltb 0 w.b) (w.a + w.b - 1) → ends second ≡ only (ltb 1 w.c) (w.a + w.c - 2) → ends first ++ ends second ≡ span_ends w.raw
+    pub span_call : number_of op ≡ CALL → ends first ≡ only (ltb 0 w.b) (w.a + w.b - 1) → ends second ≡ only (ltb 1 w.c) (w.a + w.c - 2) → ends first ++ ends second ≡ span_ends w.raw
     unfolding flatten only
     span_call e f g = ap₂ (λ (x y : List ℕ). x ++ y) f (g ∙ sym (append-nil _)) ∙ spans_of CALL e
 
-    pub span_tailcall : (t : Span) → tag_of the_type op ≡ TAILCALL → ends t ≡ only (ltb 0 w.b) (w.a + w.b - 1) → ends first ++ ends second ≡ ends t → ends first ++ ends second ≡ span_ends w.raw
+    pub span_tailcall : (t : Span) → number_of op ≡ TAILCALL → ends t ≡ only (ltb 0 w.b) (w.a + w.b - 1) → ends first ++ ends second ≡ ends t → ends first ++ ends second ≡ span_ends w.raw
     unfolding flatten only
     span_tailcall t e g f = f ∙ g ∙ sym (append-nil _) ∙ spans_of TAILCALL e
 
-    pub span_return : (t : Span) → (tag_of the_type op ≡ RETURN) ⊎ (tag_of the_type op ≡ VARARG) → ends t ≡ only (ltb 1 w.b) (w.a + w.b - 2) → ends first ++ ends second ≡ ends t → ends first ++ ends second ≡ span_ends w.raw
+    pub span_return : (t : Span) → (number_of op ≡ RETURN) ⊎ (number_of op ≡ VARARG) → ends t ≡ only (ltb 1 w.b) (w.a + w.b - 2) → ends first ++ ends second ≡ ends t → ends first ++ ends second ≡ span_ends w.raw
     unfolding flatten only
     span_return t e g f = f ∙ g ∙ sym (append-nil _) ∙ ⊎_elim (spans_of RETURN) (spans_of VARARG) e
 
-    pub span_setlist : (t : Span) → tag_of the_type op ≡ SETLIST → ends t ≡ only (ltb 0 w.b) (w.a + 1 + w.b - 1) → ends first ++ ends second ≡ ends t → ends first ++ ends second ≡ span_ends w.raw
+    pub span_setlist : (t : Span) → number_of op ≡ SETLIST → ends t ≡ only (ltb 0 w.b) (w.a + 1 + w.b - 1) → ends first ++ ends second ≡ ends t → ends first ++ ends second ≡ span_ends w.raw
     unfolding flatten only
     span_setlist t e g f =
         let sum : w.a + 1 + w.b - 1 ≡ w.a + w.b = omega arith in

@@ -4,19 +4,19 @@ use mathlib.Core.Path.{subst⁻¹}
 use mathlib.Core.List.{flat_map, flatten, foldl, foldl-append}
 use Rattle.opcodes.specs.Bytes.{i32_bits}
 use Rattle.opcodes.specs.Lists.{up_from}
-use Rattle.opcodes.proofs.TestLaws.{T_true}
+use Rattle.opcodes.proofs.TestLaws.{t_true}
 use Rattle.chunk.specs.Roles.{Executable, executable_at, is_executable, word_at}
 use Rattle.chunk.specs.Table.{Proto}
-use Rattle.roles.specs.Contracts.{role_in}
+use Rattle.roles.specs.Terms.{role_in}
 use Rattle.chunk.proofs.RoleLaws.{executable}
 use Rattle.verdict.specs.Diagnostics.{Diagnostic, Step, tested_step, untested_step, has_large_stack, stack_diagnostics, truncation_at, word_diagnostics, diagnostics_at, proto_steps}
-use Rattle.validator.specs.Contracts.{Limits, Describes, fault_diagnostics}
+use Rattle.validator.specs.Terms.{Limits, Describes, fault_diagnostics}
 use Rattle.validator.specs.Steps.{State, emitted_if, emit_all, ended, tested_of, advance}
 use Rattle.validator.specs.declared.fault.Lua51RoleFault.{Lua51RoleFault}
 use Rattle.validator.specs.declared.prototype.Prototype.{Prototype}
 use Rattle.validator.specs.declared.walk.WalkState.{WalkState}
 use Rattle.validator.proofs.EmitLaws.{emits_none, emits_only, tested_going, step_ends, step_adds}
-use Rattle.validator.proofs.DescribedLaws.{looked_up, words_of}
+use Rattle.validator.proofs.DescribedLaws.{looked_up, words_of_lem}
 use Rattle.validator.proofs.RowLaws.{tested_step_lem, steps_ended}
 
 -- ---- the stack and the truncated owner
@@ -34,12 +34,12 @@ fault_steps_lem row found told s t e f = f ∙ ap (λ (x : Lua51RoleFault). fold
 
 pub executes : (p : Proto) (q : Prototype) (code records : List ℕ) → Describes p q code records → (pc : ℕ) → pc < length code / 4 → (b : Bool) → b ≡ not (is_executable (role_in records pc)) → b ≡ false → Executable p pc
 executes p q code records d pc h b e f =
-    executable p pc (omega (arith, h, words_of p q code records d)) (subst T (sym (looked_up p q code records d pc b true e f)) tt)
+    executable p pc (omega (arith, h, words_of_lem p q code records d)) (subst T (sym (looked_up p q code records d pc b true e f)) tt)
 
 -- an executable word adds its own
 pub word_adds : (row pc : ℕ) (p : Proto) (s t : State) → Executable p pc → t ≡ emit_all row (word_diagnostics p pc (word_at p pc)) s → t ≡ emit_all row (diagnostics_at p pc) s
 unfolding diagnostics_at
-word_adds row pc p s t x e = rw (T_true (executable_at p pc) x) e
+word_adds row pc p s t x e = rw (t_true (executable_at p pc) x) e
 
 -- ---- the words one after another
 
@@ -131,10 +131,10 @@ module _ (row : ℕ) (p : Proto) (q : Prototype) (code records : List ℕ) (d : 
   pub faulted : (found : Lua51RoleFault) → fault_diagnostics found ≡ flat_map (truncation_at p) (up_from 0 (length code / 4)) → u ≡ foldl (advance row) s (map fault_step (fault_diagnostics found))
       → u ≡ foldl (advance row) s (fault_steps p)
   faulted found e f =
-      f ∙ ap (λ (ds : List Diagnostic). foldl (advance row) s (map fault_step ds)) (e ∙ ap (λ (n : ℕ). flat_map (truncation_at p) (up_from 0 n)) (words_of p q code records d))
+      f ∙ ap (λ (ds : List Diagnostic). foldl (advance row) s (map fault_step ds)) (e ∙ ap (λ (n : ℕ). flat_map (truncation_at p) (up_from 0 n)) (words_of_lem p q code records d))
 
   pub worded : u ≡ foldl (advance row) s (map (word_step p) (up_from 0 (length code / 4))) → u ≡ foldl (advance row) s (word_steps p)
-  worded f = f ∙ ap (λ (n : ℕ). foldl (advance row) s (map (word_step p) (up_from 0 n))) (words_of p q code records d)
+  worded f = f ∙ ap (λ (n : ℕ). foldl (advance row) s (map (word_step p) (up_from 0 n))) (words_of_lem p q code records d)
 
 module _ (row : ℕ) (p : Proto) (s : State) (t : WalkState) (e : t ≡ tested_of s.0) where
   begins : ◌≡◌ {A = State} (t, s.1) (advance row s (tested_step []))

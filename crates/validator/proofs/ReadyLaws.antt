@@ -8,13 +8,13 @@ use Rattle.opcodes.proofs.ByteLaws.{length_u32s}
 use Rattle.chunk.specs.Refusals.{max_rows, max_word_bytes, word_total}
 use Rattle.chunk.specs.Roles.{role_at, role_bytes}
 use Rattle.chunk.specs.Table.{Row, Proto, row_bytes, row_at, rows, children, proto_of}
-use Rattle.roles.specs.Contracts.{proto_in, role_in}
+use Rattle.roles.specs.Terms.{proto_in, role_in}
 use Rattle.chunk.proofs.RefusalLaws.{ImageKept, image_kept}
 use Rattle.chunk.proofs.TableLaws.{length_rows}
 use Rattle.chunk.proofs.TotalLaws.{words_front, words_next}
 use Rattle.roles.proofs.RoleFillLaws.{part_length, part_proto}
 use Rattle.verdict.specs.Diagnostics.{proto_steps}
-use Rattle.validator.specs.Contracts.{Describes, Ordered, prototype_of}
+use Rattle.validator.specs.Terms.{Describes, Ordered, prototype_of}
 use Rattle.validator.specs.Steps.{State, Ready, advance, own_steps}
 use Rattle.validator.specs.declared.prototype.Prototype.{Prototype}
 use Rattle.validator.specs.declared.walk.WalkState.{WalkState}

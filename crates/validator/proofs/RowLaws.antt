@@ -7,7 +7,7 @@ use borrow.Author.Tests.{lt-leb}
 use Rattle.opcodes.specs.Bytes.{u32s}
 use Rattle.chunk.specs.Table.{row_bytes, row_at, rows}
 use Rattle.chunk.specs.Refusals.{word_total}
-use Rattle.roles.specs.Contracts.{proto_in}
+use Rattle.roles.specs.Terms.{proto_in}
 use Rattle.verdict.specs.Diagnostics.{Diagnostic, Step, tested_step, proto_steps}
 use Rattle.opcodes.proofs.TestLaws.{true≢false, or-false, by_cond}
 use Rattle.chunk.proofs.TotalLaws.{words_next}

@@ -8,14 +8,14 @@ use Rattle.opcodes.specs.Bytes.{u32s, u32_record, i32_bits, i32_record, overwrit
 use Rattle.opcodes.specs.Lists.{All, all_nil, all_cons, any}
 use Rattle.chunk.specs.Table.{Row, row_bytes, row_at, rows, protos_of, protos}
 use Rattle.chunk.specs.Refusals.{word_total, bad_depth}
-use Rattle.roles.specs.Contracts.{proto_in}
+use Rattle.roles.specs.Terms.{proto_in}
 use Rattle.verdict.specs.Diagnostics.{Diagnostic, is_error, Step, proto_steps}
 use Rattle.verdict.specs.Walk.{RowDiagnostic, in_row, max_diagnostics, Walk, start, count_n, advance as advanceWalk, walk_row, walk_from, walk, limit_reached, has_errors, diagnostic_fields, diagnostic_bytes, error_in}
 use Rattle.verdict.specs.Image.{Image, image_protos, image_walk, diagnostics, verdict}
 use Rattle.verdict.specs.Check.{checked}
 use Rattle.verdict.specs.Statements.{Accepted}
 use Rattle.validator.specs.Steps.{State, emitted, emit, emit_all, ended, advance, moved_to, own_steps, onward, step_row, walk_for, walk_to, written, Walked}
-use Rattle.validator.specs.Contracts.{concluded}
+use Rattle.validator.specs.Terms.{concluded}
 use Rattle.opcodes.proofs.TestLaws.{or-false, by_cond}
 use Rattle.opcodes.proofs.AllLaws.{all_head, all_tail}
 use Rattle.chunk.proofs.TableLaws.{length_rows, drop_rows}

@@ -9,11 +9,10 @@ use Rattle.opcodes.specs.declared.OpMode51.TheVariants.{IABC, IABx, IAsBx}
 use Rattle.opcodes.specs.declared.RawInstruction51.{RawInstruction51}
 use Rattle.chunk.specs.Roles.{Role, is_executable, role_at}
 use Rattle.chunk.specs.Table.{Proto}
-use Rattle.roles.specs.Contracts.{role_in, role_of}
-use Rattle.roles.specs.declared.role.Lua51PhysicalRole.{Lua51PhysicalRole}
+use Rattle.roles.specs.Terms.{role_in}
 use Rattle.verdict.specs.Diagnostics.{Diagnostic, diagnostic, not_below, target_diagnostics, jump_diagnostics, skip_diagnostics, operand_diagnostics}
 use Rattle.verdict.specs.Operands.{is_jump, target, is_skip, skip_target, constant_bx, upvalue_b, flag_a, register_a, span_ends, register_in, constant_in, child_bx}
-use Rattle.validator.specs.Contracts.{Decodes, Limits, Stands, ends, operand_field, names_register, names_constant}
+use Rattle.validator.specs.Terms.{Decodes, Limits, Stands, ends, operand_field, names_register, names_constant}
 use Rattle.validator.specs.Steps.{State, emitted, emitted_if, emit_all}
 use Rattle.validator.specs.declared.operands.OperandField.{OperandField}
 use Rattle.validator.specs.declared.operands.Span.{Span}
@@ -21,12 +20,6 @@ use Rattle.validator.specs.declared.operands.Span.TheVariants.{None, To}
 use Rattle.validator.specs.declared.prototype.Prototype.{Prototype}
 use Rattle.validator.proofs.EmitLaws.{emits_none, emits_word, emits_bits, emits_hit, emits_then}
 use Rattle.validator.proofs.OperandLaws.{listed, not_unknown, split_a}
-
--- ---- roles
-
--- a role that was looked up, once the code knows which it is
-pub told_companion : (found told : Lua51PhysicalRole) (role : Role) → role_of found ≡ role → found ≡ told → not (is_executable (role_of told)) ≡ not (is_executable role)
-told_companion found told role e q = ap (λ (r : Role). not (is_executable r)) (ap role_of (sym q) ∙ e)
 
 -- ---- operands
 

@@ -1,3 +1,3 @@
 pub mod Clean
-pub mod Contracts
+pub mod Terms
 pub mod Steps

@@ -8,7 +8,7 @@ use Rattle.opcodes.specs.Lists.{any}
 use Rattle.chunk.specs.Table.{row_bytes, row_at, rows}
 use Rattle.chunk.specs.Roles.{role_at, role_bytes}
 use Rattle.chunk.specs.Refusals.{word_total, image_refusal}
-use Rattle.roles.specs.Contracts.{proto_in, role_in}
+use Rattle.roles.specs.Terms.{proto_in, role_in}
 use Rattle.verdict.specs.Diagnostics.{Diagnostic, Step, proto_steps}
 use Rattle.verdict.specs.Walk.{RowDiagnostic, diagnostic_fields, diagnostic_bytes, error_in}
 use Rattle.verdict.specs.Image.{Image, image_walk}

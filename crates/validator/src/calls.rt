@@ -9,7 +9,7 @@ ghost use Rattle.verdict.specs.Check.{Checked, check_answer, checked, diagnostic
 ghost use Rattle.verdict.specs.Image.{diagnostics as found};
 ghost use Rattle.verdict.specs.Statements.{Guarantee};
 ghost use Rattle.verdict.specs.Walk.{max_diagnostics, diagnostic_bytes, diagnostic_fields, verdict_of};
-ghost use Rattle.validator.specs.Contracts.{answer_of, concluded, image_of, verdict_in};
+ghost use Rattle.validator.specs.Terms.{answer_of, concluded, image_of, verdict_in};
 ghost use Rattle.validator.specs.Steps.{Filled, Ready, Walked, step_row, walk_to};
 
 use crate::proto::validate_proto;
@@ -29,7 +29,7 @@ const MOST_DIAGNOSTICS: usize = 10255;
 const FEW_ROWS: usize = 256;
 
 // What is said of an image.
-#[derive(Drop)]
+#[derive(Clone, Copy)]
 pub enum Verdict {
     ValidForParser,
     Incomplete,
@@ -37,7 +37,7 @@ pub enum Verdict {
 }
 
 // The call's answer: a refusal, or the verdict and the number of diagnostics.
-#[derive(Drop)]
+#[derive(Clone, Copy)]
 pub enum Validation {
     Refused(Refusal),
     Checked(Verdict, u32),
@@ -78,7 +78,7 @@ fn validate_once(
     diagnostics: &mut [u8],
 ) -> Validation
     requires filled { Filled protos.now words.now roles.now }
-    requires errors_in_bounds { diagnostic_bytes * length (found (image_of protos.now words.now warnings errors)) ≤ length diagnostics.old }
+    requires all_fit { diagnostic_bytes * length (found (image_of protos.now words.now warnings errors)) ≤ length diagnostics.old }
     ensures result_value { answer_of result ≡ accepted (checked (image_of protos.now words.now warnings errors)) }
     ensures diagnostics_after { diagnostics.new ≡ overwrite diagnostics.old 0 (i32_record (flat_map diagnostic_fields (found (image_of protos.now words.now warnings errors)))) }
 {
@@ -181,6 +181,7 @@ fn stop_count(warnings: u32, errors: u32) -> u16
 }
 
 // The verdict of a walk, and the number of its diagnostics.
+#[tactic(auto, unfolding(crate::specs::Terms::answer_of, crate::specs::Terms::concluded))]
 fn conclude(walk: WalkState, warnings: u32, errors: u32) -> Validation
     ensures { answer_of result ≡ accepted (concluded warnings errors walk) }
 {
@@ -212,6 +213,7 @@ fn limit_reached(walk: WalkState, warnings: u32, errors: u32) -> bool
 }
 
 // By whether there are errors and whether the limit was reached.
+#[tactic(auto, unfolding(crate::specs::Terms::verdict_in, verdict::specs::Walk::verdict_of))]
 fn verdict_of(errors: bool, limit: bool) -> Verdict
     ensures { verdict_in result ≡ verdict_of errors limit }
 {

@@ -9,7 +9,7 @@ ghost use Rattle.chunk.specs.Roles.{Executable};
 ghost use Rattle.chunk.specs.Table.{Proto};
 ghost use Rattle.verdict.specs.Diagnostics.{diagnostics_at};
 ghost use Rattle.verdict.specs.Rules.{Lands};
-ghost use Rattle.validator.specs.Contracts.{Describes, Stands};
+ghost use Rattle.validator.specs.Terms.{Describes, Stands};
 ghost use Rattle.validator.specs.Clean.{FlowKept, OperandsBelow, limits_of, shapes};
 
 use crate::prototype::Prototype;
@@ -75,8 +75,8 @@ const SHAPES: [u32; 38] = [
 // The first pc from `from` on whose word is not found clean, or the number of words. It is that of an executable word.
 pub fn next_suspect(proto: Prototype, code: &[u8], roles: &[u8], from: usize) -> usize
     requires { (from ≤ length code.now / 4) × (length code.now ≤ max_word_bytes) × (length roles.now ≤ 2 * max_word_bytes) }
-    ensures lower_bound { (from ≤ result) × (result ≤ length code.now / 4) }
-    ensures pc_value { (p : Proto) → Describes p proto code.now roles.now → (pc : ℕ) → from ≤ pc → pc < result → diagnostics_at p pc ≡ [] }
+    ensures in_range { (from ≤ result) × (result ≤ length code.now / 4) }
+    ensures clean { (p : Proto) → Describes p proto code.now roles.now → (pc : ℕ) → from ≤ pc → pc < result → diagnostics_at p pc ≡ [] }
     ensures executable { result < length code.now / 4 → (p : Proto) → Describes p proto code.now roles.now → Executable p result }
 {
     let limits = [
@@ -112,9 +112,9 @@ fn is_clean(
     roles: &[u8],
     pc: usize,
 ) -> bool
-    requires pc_in_bounds { (pc < length code.now / 4) × (length code.now ≤ max_word_bytes) × (length roles.now ≤ 2 * max_word_bytes) }
-    requires limits_value { (limits.now ≡ limits_of proto) × (table.now ≡ shapes) }
-    ensures pc_value { (p : Proto) → Describes p proto code.now roles.now → result ≡ true → diagnostics_at p pc ≡ [] }
+    requires in_range { (pc < length code.now / 4) × (length code.now ≤ max_word_bytes) × (length roles.now ≤ 2 * max_word_bytes) }
+    requires tables { (limits.now ≡ limits_of proto) × (table.now ≡ shapes) }
+    ensures clean { (p : Proto) → Describes p proto code.now roles.now → result ≡ true → diagnostics_at p pc ≡ [] }
     ensures executable { (p : Proto) → Describes p proto code.now roles.now → result ≡ false → Executable p pc }
 {
     if is_companion(roles, pc) {

@@ -7,9 +7,9 @@ ghost use Rattle.opcodes.specs.Words.{decoded};
 ghost use Rattle.chunk.specs.Refusals.{max_rows, max_word_bytes};
 ghost use Rattle.chunk.specs.Roles.{claims};
 ghost use Rattle.chunk.specs.Table.{row_bytes};
-ghost use Rattle.roles.specs.Contracts.{proto_in, role_in};
+ghost use Rattle.roles.specs.Terms.{proto_in, role_in};
 ghost use Rattle.verdict.specs.Diagnostics.{truncation_at};
-ghost use Rattle.validator.specs.Contracts.{Describes, fault_diagnostics, last_owner, prototype_of};
+ghost use Rattle.validator.specs.Terms.{Describes, fault_diagnostics, last_owner, prototype_of};
 
 use crate::prototype::{Prototype, field};
 use opcodes::RawInstruction51;
@@ -23,7 +23,7 @@ const SETLIST: u8 = 34;
 const CLOSURE: u8 = 36;
 
 // A truncated CLOSURE, with its pc and its child's upvalues; a truncated SETLIST, with its pc.
-#[derive(Drop)]
+#[derive(Clone, Copy)]
 pub enum Lua51RoleFault {
     None,
     TruncatedClosure(u32, u32),
@@ -32,8 +32,8 @@ pub enum Lua51RoleFault {
 
 // The fault of the prototype in a row.
 pub fn find_fault(protos: &[u8], proto: Prototype, code: &[u8], roles: &[u8]) -> Lua51RoleFault
-    requires row_bytes_in_bounds { (row_bytes * proto.row + row_bytes ≤ length protos.now) × (length protos.now / row_bytes ≤ max_rows) × (length code.now ≤ max_word_bytes) }
-    requires proto_value { proto ≡ prototype_of protos.now proto.row }
+    requires row_there { (row_bytes * proto.row + row_bytes ≤ length protos.now) × (length protos.now / row_bytes ≤ max_rows) × (length code.now ≤ max_word_bytes) }
+    requires prototype { proto ≡ prototype_of protos.now proto.row }
     requires describes { Describes (proto_in protos.now proto.row (u32s code.now)) proto code.now roles.now }
     ensures { fault_diagnostics result ≡ flat_map (truncation_at (proto_in protos.now proto.row (u32s code.now))) (up_from 0 (length code.now / 4)) }
 {
@@ -55,6 +55,7 @@ pub fn find_fault(protos: &[u8], proto: Prototype, code: &[u8], roles: &[u8]) ->
 }
 
 // The owner of the word at pc, or that pc where it is executable.
+#[tactic(auto, unfolding(crate::specs::Terms::last_owner))]
 fn last_owner(roles: &[u8], pc: u32) -> u32
     ensures { result ≡ last_owner pc (role_in roles.now pc) }
 {
@@ -67,8 +68,8 @@ fn last_owner(roles: &[u8], pc: u32) -> u32
 
 // How many words an executable word of the prototype owns.
 fn owned_words(protos: &[u8], proto: Prototype, w: RawInstruction51) -> u32
-    requires row_bytes_in_bounds { (row_bytes * proto.row + row_bytes ≤ length protos.now) × (length protos.now / row_bytes ≤ max_rows) }
-    requires proto_value { (proto ≡ prototype_of protos.now proto.row) × (w ≡ decoded w.raw) }
+    requires row_there { (row_bytes * proto.row + row_bytes ≤ length protos.now) × (length protos.now / row_bytes ≤ max_rows) }
+    requires prototype_and_word { (proto ≡ prototype_of protos.now proto.row) × (w ≡ decoded w.raw) }
     ensures { (pc : ℕ) (words : List ℕ) → result ≡ length (claims (proto_in protos.now proto.row words) pc w.raw) }
 {
     if w.opcode_num == CLOSURE {
@@ -84,8 +85,8 @@ fn owned_words(protos: &[u8], proto: Prototype, w: RawInstruction51) -> u32
 
 // How many upvalues child k of the prototype has. A missing child has none.
 fn child_upvalues(protos: &[u8], proto: Prototype, k: u32) -> u32
-    requires row_bytes_in_bounds { (row_bytes * proto.row + row_bytes ≤ length protos.now) × (length protos.now / row_bytes ≤ max_rows) }
-    requires proto_value { proto ≡ prototype_of protos.now proto.row }
+    requires row_there { (row_bytes * proto.row + row_bytes ≤ length protos.now) × (length protos.now / row_bytes ≤ max_rows) }
+    requires prototype { proto ≡ prototype_of protos.now proto.row }
     ensures { (words : List ℕ) → result ≡ slice_index (proto_in protos.now proto.row words).children k }
 {
     match find_child(protos, (proto.row as usize) + 1, proto.depth, k, 0) {

@@ -1,4 +1,6 @@
 // The Lua 5.1 validator, after luad's validator.rs: the diagnostics of each prototype, the walk over them with its limit, and the verdict.
+#![tactic(auto)]
+
 pub mod calls;
 mod clean;
 pub mod codes;

@@ -1,28 +1,28 @@
 // What a word of a known opcode names and where it goes. `op` is its opcode.
 ghost use Rattle.std.specs.Prelude.{◌≡◌, ◌+◌, ◌-◌, ◌≤◌, [], ◌∷◌, ◌++◌, nat_lt};
 ghost use Rattle.opcodes.specs.Lists.{elem, only};
-ghost use Rattle.opcodes.specs.Words.{B, C, CLOSURE, EQ, GETGLOBAL, GETUPVAL, Le, LOADK, Lt, SETGLOBAL, SETUPVAL, number_of};
+ghost use Rattle.opcodes.specs.Words.{B, C, CLOSURE, EQ, GETGLOBAL, GETUPVAL, LE, LOADK, LT, SETGLOBAL, SETUPVAL, number_of};
 ghost use Rattle.verdict.specs.Operands.{is_skip, span_ends};
-ghost use Rattle.validator.specs.Contracts.{Decodes, ends, names_constant, names_register, operand_field};
+ghost use Rattle.validator.specs.Terms.{Decodes, ends, names_constant, names_register, operand_field};
 
 use opcodes::{Opcode51, RawInstruction51, is_k};
 
 // The last register of a span, where the word names one.
-#[derive(Drop)]
+#[derive(Clone, Copy)]
 pub enum Span {
     None,
     To(u32),
 }
 
 // The spans that a word names, in their order.
-#[derive(Drop)]
+#[derive(Clone, Copy)]
 pub struct Spans {
     pub first: Span,
     pub second: Span,
 }
 
 // An operand field, B or C, of a word: whether it always names a register, whether it is an RK operand, and its value.
-#[derive(Drop)]
+#[derive(Clone, Copy)]
 pub struct OperandField {
     pub fixed: bool,
     pub rk: bool,
@@ -31,6 +31,7 @@ pub struct OperandField {
 
 impl OperandField {
     // Whether it names a register.
+    #[tactic(auto, unfolding(crate::specs::Terms::names_register))]
     pub fn is_register(self) -> bool
         ensures { result ≡ names_register self }
     {
@@ -44,6 +45,7 @@ impl OperandField {
     }
 
     // Whether it names a constant.
+    #[tactic(auto, unfolding(crate::specs::Terms::names_constant))]
     pub fn is_constant(self) -> bool
         ensures { result ≡ names_constant self }
     {
@@ -79,6 +81,7 @@ pub fn field_c(op: Opcode51, w: RawInstruction51) -> OperandField
 }
 
 // Whether Bx names a constant.
+#[tactic(auto, unfolding(opcodes::specs::Words::number_of))]
 pub fn loads_constant(op: Opcode51) -> bool
     ensures { result ≡ elem (number_of op) (LOADK ∷ GETGLOBAL ∷ SETGLOBAL ∷ []) }
 {
@@ -89,6 +92,7 @@ pub fn loads_constant(op: Opcode51) -> bool
 }
 
 // Whether B names an upvalue.
+#[tactic(auto, unfolding(opcodes::specs::Words::number_of))]
 pub fn names_upvalue(op: Opcode51) -> bool
     ensures { result ≡ elem (number_of op) (GETUPVAL ∷ SETUPVAL ∷ []) }
 {
@@ -99,8 +103,9 @@ pub fn names_upvalue(op: Opcode51) -> bool
 }
 
 // Whether A is a comparison's flag.
+#[tactic(auto, unfolding(opcodes::specs::Words::number_of))]
 pub fn is_comparison(op: Opcode51) -> bool
-    ensures { result ≡ elem (number_of op) (EQ ∷ Lt ∷ Le ∷ []) }
+    ensures { result ≡ elem (number_of op) (EQ ∷ LT ∷ LE ∷ []) }
 {
     match op {
         Opcode51::Eq | Opcode51::Lt | Opcode51::Le => true,
@@ -109,6 +114,7 @@ pub fn is_comparison(op: Opcode51) -> bool
 }
 
 // Whether Bx names a child.
+#[tactic(auto, unfolding(opcodes::specs::Words::number_of))]
 pub fn is_closure(op: Opcode51) -> bool
     ensures { result ≡ elem (number_of op) (CLOSURE ∷ []) }
 {
@@ -156,6 +162,7 @@ pub fn register_spans(op: Opcode51, w: RawInstruction51) -> Spans
     }
 }
 
+#[tactic(auto, unfolding(crate::specs::Terms::ends))]
 fn one_span(first: Span) -> Spans
     ensures { ends result.first ++ ends result.second ≡ ends first }
 {
@@ -166,6 +173,7 @@ fn one_span(first: Span) -> Spans
 }
 
 // A span from `start` on, of so many registers but `implied`: it names none where none are left.
+#[tactic(auto, unfolding(crate::specs::Terms::ends, opcodes::specs::Lists::only))]
 fn window(start: u32, count: u16, implied: u16) -> Span
     requires { start ≤ 256 }
     ensures { ends result ≡ only (nat_lt implied count) (start + count - (implied + 1)) }

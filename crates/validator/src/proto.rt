@@ -5,9 +5,9 @@ ghost use Rattle.opcodes.specs.Bytes.{u32s};
 ghost use Rattle.opcodes.specs.Lists.{up_from};
 ghost use Rattle.chunk.specs.Refusals.{max_rows, max_word_bytes};
 ghost use Rattle.chunk.specs.Table.{Proto, row_at, row_bytes};
-ghost use Rattle.roles.specs.Contracts.{proto_in};
+ghost use Rattle.roles.specs.Terms.{proto_in};
 ghost use Rattle.verdict.specs.Diagnostics.{diagnostics_at, proto_steps, stack_diagnostics, tested_step};
-ghost use Rattle.validator.specs.Contracts.{ChildCounts, Describes, Limits, fault_diagnostics, prototype_of};
+ghost use Rattle.validator.specs.Terms.{ChildCounts, Describes, Limits, fault_diagnostics, prototype_of};
 ghost use Rattle.validator.specs.Steps.{Ready, advance, emit_all, goes_on, own_steps, step_row, walk_to};
 
 use crate::clean::next_suspect;
@@ -26,7 +26,7 @@ const NONE: u32 = 0xffff_ffff;
 const USUAL_STACK: u32 = 250;
 
 // The next row and all rows below it, by the number of children of each row.
-#[cycle(validate_children_validate_proto)]
+#[cycle(walk)]
 pub fn validate_proto(
     walk: WalkState,
     protos: &[u8],
@@ -56,7 +56,7 @@ pub fn validate_proto(
 }
 
 // The rows from the next one on that are deeper than this depth: the children of a prototype, each with the rows below it.
-#[cycle(validate_children_validate_proto)]
+#[cycle(walk)]
 fn validate_children(
     walk: WalkState,
     protos: &[u8],
@@ -84,6 +84,7 @@ fn validate_children(
 }
 
 // Whether the walk goes on with a row deeper than this depth.
+#[tactic(auto, unfolding(crate::specs::Steps::goes_on, chunk::specs::Table::row_at))]
 fn goes_on(walk: WalkState, protos: &[u8], depth: u32) -> bool
     ensures { result ≡ goes_on protos.now depth walk }
 {
@@ -106,7 +107,7 @@ fn validate_row(
     proto: Prototype,
 ) -> WalkState
     requires ready { Ready protos.now words.now roles.now walk × (walk.row < length protos.now / row_bytes) }
-    requires proto_value { proto ≡ prototype_of protos.now walk.row }
+    requires prototype { proto ≡ prototype_of protos.now walk.row }
     ensures { (result, out.new) ≡ own_steps protos.now words.now (walk, out.old) }
 {
     let first = walk.first;
@@ -130,9 +131,9 @@ fn validate_own(
     code: &[u8],
     roles: &[u8],
 ) -> WalkState
-    requires row_bytes_in_bounds { (row_bytes * proto.row + row_bytes ≤ length protos.now) × (length protos.now / row_bytes ≤ max_rows) }
-    requires code_len_bound { (length code.now ≤ max_word_bytes) × (length roles.now ≤ 2 * max_word_bytes) }
-    requires proto_value { proto ≡ prototype_of protos.now proto.row }
+    requires row_there { (row_bytes * proto.row + row_bytes ≤ length protos.now) × (length protos.now / row_bytes ≤ max_rows) }
+    requires short { (length code.now ≤ max_word_bytes) × (length roles.now ≤ 2 * max_word_bytes) }
+    requires prototype { proto ≡ prototype_of protos.now proto.row }
     requires describes { Describes (proto_in protos.now proto.row (u32s code.now)) proto code.now roles.now }
     ensures { (result, out.new) ≡ foldl (advance proto.row) (walk, out.old) (proto_steps (proto_in protos.now proto.row (u32s code.now))) }
 {

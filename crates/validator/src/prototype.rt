@@ -2,13 +2,13 @@
 ghost use Rattle.std.specs.Prelude.{◌≡◌, ◌+◌, ◌*◌, ◌/◌, ◌<◌, ◌≤◌, length};
 ghost use Rattle.chunk.specs.Refusals.{max_rows};
 ghost use Rattle.chunk.specs.Table.{field_at, row_bytes, row_fields};
-ghost use Rattle.validator.specs.Contracts.{ChildCounts, Counted, Ordered, prototype_of};
+ghost use Rattle.validator.specs.Terms.{ChildCounts, Counted, Ordered, prototype_of};
 
 use opcodes::bytes::read_u32;
 use roles::table::{CONSTANTS, DEPTH, ROW_BYTES, STACK, UPVALUES, WORDS};
 
 // What the diagnostics of a prototype depend on beside its words and their roles.
-#[derive(Drop)]
+#[derive(Clone, Copy)]
 pub struct Prototype {
     pub row: u32,
     pub depth: u32,

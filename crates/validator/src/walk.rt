@@ -14,7 +14,7 @@ pub const DIAGNOSTIC_BYTES: usize = 16;
 
 // The next row and the index of its first word; how many diagnostics were found, and how many of them end the walk at a test; whether one is an
 // error; whether a test ended the walk. (The fields fill the struct: docs/DECISIONS.md says what its padding cost.)
-#[derive(Drop)]
+#[derive(Clone, Copy)]
 pub struct WalkState {
     pub row: usize,
     pub first: usize,
@@ -26,6 +26,7 @@ pub struct WalkState {
 
 impl WalkState {
     // The test of the limit.
+    #[tactic(auto, unfolding(crate::specs::Steps::tested_of))]
     pub fn tested(mut self) -> WalkState
         ensures { result ≡ tested_of self }
     {
@@ -36,6 +37,7 @@ impl WalkState {
     }
 
     // On to the next row, whose words begin at `first`.
+    #[tactic(auto, unfolding(crate::specs::Steps::moved_to))]
     pub(crate) fn moved(mut self, first: usize) -> WalkState
         requires { self.row < max_rows }
         ensures { result ≡ moved_to first self }
@@ -47,6 +49,7 @@ impl WalkState {
 
     // Adds a diagnostic, given by the bits of its fields: it is counted, and written where its record fits. (It is counted modulo 2^32, which the
     // limit keeps far away.)
+    #[tactic(auto, unfolding(crate::specs::Steps::emitted))]
     pub fn emit(mut self, out: &mut [u8], row: u32, pc: u32, code: u32, value: u32) -> WalkState
         ensures { (result, out.new) ≡ emitted row pc code value (self, out.old) }
     {
@@ -71,6 +74,7 @@ impl WalkState {
     }
 
     // Adds a diagnostic where its condition holds.
+    #[tactic(auto, unfolding(crate::specs::Steps::emitted_if))]
     pub fn emit_if(
         self,
         out: &mut [u8],

@@ -6,10 +6,10 @@ ghost use Rattle.opcodes.specs.Words.{B, C, CLOSURE, Field, GETUPVAL as opcodeGE
 ghost use Rattle.chunk.specs.Refusals.{max_word_bytes};
 ghost use Rattle.chunk.specs.Roles.{Executable, binding_words, is_executable, word_at};
 ghost use Rattle.chunk.specs.Table.{Proto};
-ghost use Rattle.roles.specs.Contracts.{role_in};
+ghost use Rattle.roles.specs.Terms.{role_in};
 ghost use Rattle.verdict.specs.Diagnostics.{binding_diagnostics, diagnostic, jump_diagnostics, not_below, opcode_value, operand_diagnostics, skip_diagnostics, target_diagnostics, word_diagnostics};
 ghost use Rattle.verdict.specs.Operands.{captured_register, captured_upvalue, constant_bx, constant_in, flag_a, is_binding, is_skip, register_a, register_in, skip_target, span_ends, upvalue_b};
-ghost use Rattle.validator.specs.Contracts.{Decodes, Describes, Limits, Stands, ends, operand_field};
+ghost use Rattle.validator.specs.Terms.{Decodes, Describes, Limits, Stands, ends, operand_field};
 ghost use Rattle.validator.specs.Steps.{emit_all};
 
 use crate::codes::{

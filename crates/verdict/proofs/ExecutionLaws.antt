@@ -9,13 +9,13 @@ use lib.Dec.{T, ltb, ltb→lt, nltb→le}
 use lib.ListN.{length}
 use lib.IntN.{ℤ, pos, negsuc}
 use Rattle.opcodes.specs.Lists.{all_nil, all_cons}
-use Rattle.opcodes.specs.Words.{operand, C, is, with_sbx, JMP, FORPREP, FORLOOP, RETURN, TAILCALL, EQ, Lt, Le, TEST, TESTSET, TFORLOOP, LOADBOOL, CLOSURE, SETLIST}
+use Rattle.opcodes.specs.Words.{operand, C, is, with_sbx, JMP, FORPREP, FORLOOP, RETURN, TAILCALL, EQ, LT, LE, TEST, TESTSET, TFORLOOP, LOADBOOL, CLOSURE, SETLIST}
 use Rattle.chunk.specs.Table.{Proto}
 use Rattle.chunk.specs.Roles.{Executable, is_executable, role_at, word_at, owned, existing, is_truncated, companions}
 use Rattle.verdict.specs.Operands.{is_jump, is_skip, is_loadbool_skip, skip_target, target}
 use Rattle.verdict.specs.Rules.{Lands, RulesAt, WellFormed, OperandsInRange}
 use Rattle.verdict.specs.Executions.{State, at, left, arrive, next, meet, run_from, run, MayLeave, MayMeet, Safe, SafeRun}
-use Rattle.opcodes.proofs.TestLaws.{T_and, by_cond, by_or, or_right, disjoint, is_among}
+use Rattle.opcodes.proofs.TestLaws.{t_and, by_cond, by_or, or_right, disjoint, is_among}
 use Rattle.chunk.proofs.RoleLaws.{role, executable, first_executable, next_executable, owns_none}
 
 -- a run may be here
@@ -48,7 +48,7 @@ next_fine : (p : Proto) (pc : ℕ) (choice : Bool) → Executable p pc → Rules
 unfolding next is_jump is_skip is_loadbool_skip
 next_fine p pc choice x k =
     let w = word_at p pc in
-    let tests = EQ ∷ Lt ∷ Le ∷ TEST ∷ TESTSET ∷ TFORLOOP ∷ [] in
+    let tests = EQ ∷ LT ∷ LE ∷ TEST ∷ TESTSET ∷ TFORLOOP ∷ [] in
     let jumped : T (is_jump w) → Fine p (arrive p (target pc w)) = λ t. arrive_lands p (target pc w) (k.jump.target t) in
     let skipped : T (is_skip w) → Fine p (arrive p (pos (skip_target pc))) = λ t. arrive_role p (skip_target pc) (k.jump.skip t) in
     by_cond (Fine p) (is w (JMP ∷ FORPREP ∷ [])) _ _ (λ t. jumped (is_among w (JMP ∷ FORPREP ∷ []) with_sbx tt t))
@@ -59,7 +59,7 @@ next_fine p pc choice x k =
     (λ t. by_cond (Fine p) choice _ _ (λ _. skipped t)
     (λ _. by_or (is w tests) (is_loadbool_skip w)
     (λ u. on_fine p pc x tests tt tt u)
-    (λ u. on_fine p pc x (LOADBOOL ∷ []) tt tt (T_and (is w (LOADBOOL ∷ [])) (ltb 0 (operand C w)) u).0) t))
+    (λ u. on_fine p pc x (LOADBOOL ∷ []) tt tt (t_and (is w (LOADBOOL ∷ [])) (ltb 0 (operand C w)) u).0) t))
     (λ _. by_cond (Fine p) (is w (RETURN ∷ [])) _ _ (λ t. is_among w (RETURN ∷ []) (RETURN ∷ TAILCALL ∷ []) tt t)
     (λ _. by_cond (Fine p) (is w (TAILCALL ∷ [])) _ _
     (λ t. by_cond (Fine p) choice _ _ (λ _. is_among w (TAILCALL ∷ []) (RETURN ∷ TAILCALL ∷ []) tt t) (λ _. on_fine p pc x (TAILCALL ∷ []) tt tt t))

@@ -10,7 +10,7 @@ use lib.ListN.{length, get_or, length-append, length-map, get_or-eq_default}
 use lib.IntN.{ℤ, pos, negsuc}
 use borrow.Author.Tests.{leb-true, leb-false}
 use Rattle.opcodes.specs.Lists.{All, all_cons, only, up_from, select, keep_if}
-use Rattle.opcodes.specs.Words.{is, opcode, operand, field_a, field_bx, B, C, with_sbx, without_a, MOVE, GETUPVAL, LOADK, GETGLOBAL, SETGLOBAL, SETUPVAL, LOADBOOL, SELF, EQ, Lt, Le, TEST, TESTSET, CALL, TAILCALL, RETURN, FORLOOP, FORPREP, TFORLOOP, SETLIST, CLOSURE, VARARG}
+use Rattle.opcodes.specs.Words.{is, opcode, operand, field_a, field_bx, B, C, with_sbx, without_a, MOVE, GETUPVAL, LOADK, GETGLOBAL, SETGLOBAL, SETUPVAL, LOADBOOL, SELF, EQ, LT, LE, TEST, TESTSET, CALL, TAILCALL, RETURN, FORLOOP, FORPREP, TFORLOOP, SETLIST, CLOSURE, VARARG}
 use Rattle.opcodes.specs.Bytes.{u32s}
 use Rattle.chunk.specs.Table.{rows, Proto, protos}
 use Rattle.chunk.proofs.RefusalLaws.{image_kept}
@@ -23,7 +23,7 @@ use Rattle.verdict.specs.Image.{Image, image_protos, image_walk, diagnostics}
 use Rattle.verdict.specs.Statements.{Accepted}
 use Rattle.opcodes.proofs.AllLaws.{all_get_d, all_imp}
 use Rattle.opcodes.proofs.ListLaws.{length_up_from, select_most}
-use Rattle.opcodes.proofs.TestLaws.{is_not, is_among, true≢false, or-false, T_true, by_cond, disjoint}
+use Rattle.opcodes.proofs.TestLaws.{is_not, is_among, true≢false, or-false, t_true, by_cond, disjoint}
 
 -- ---- lists end to end, so many at most
 
@@ -142,7 +142,7 @@ closure_operands p pc w t =
     simp (
       other (LOADK ∷ GETGLOBAL ∷ SETGLOBAL ∷ []) tt,
       other (GETUPVAL ∷ SETUPVAL ∷ []) tt,
-      other (EQ ∷ Lt ∷ Le ∷ []) tt,
+      other (EQ ∷ LT ∷ LE ∷ []) tt,
       other (SELF ∷ []) tt,
       other (FORPREP ∷ FORLOOP ∷ []) tt,
       other (TFORLOOP ∷ []) tt,
@@ -160,12 +160,12 @@ closure_operands p pc w t =
 closure_jumps : (p : Proto) (pc w : ℕ) → T (is w (CLOSURE ∷ [])) → jump_diagnostics p pc w ++ skip_diagnostics p pc w ≡ []
 unfolding jump_diagnostics is_jump skip_diagnostics is_skip is_loadbool_skip only
 closure_jumps p pc w t =
-    simp (is_not w (CLOSURE ∷ []) with_sbx tt t, is_not w (CLOSURE ∷ []) (EQ ∷ Lt ∷ Le ∷ TEST ∷ TESTSET ∷ TFORLOOP ∷ []) tt t, is_not w (CLOSURE ∷ []) (LOADBOOL ∷ []) tt t)
+    simp (is_not w (CLOSURE ∷ []) with_sbx tt t, is_not w (CLOSURE ∷ []) (EQ ∷ LT ∷ LE ∷ TEST ∷ TESTSET ∷ TFORLOOP ∷ []) tt t, is_not w (CLOSURE ∷ []) (LOADBOOL ∷ []) tt t)
 
 child_most : (p : Proto) (pc w : ℕ) → T (is w (CLOSURE ∷ [])) → All (λ n. n ≤ 255) p.children
     → length (not_below pc 16 (length p.children) (child_bx w)) + binding_count p w ≤ 255
 unfolding not_below child_bx only binding_count
-child_most p pc w t h = rw (T_true (is w (CLOSURE ∷ [])) t) (go (leb (length p.children) (field_bx w)) refl)
+child_most p pc w t h = rw (t_true (is w (CLOSURE ∷ [])) t) (go (leb (length p.children) (field_bx w)) refl)
   where
     go : (b : Bool) → leb (length p.children) (field_bx w) ≡ b
         → length (map (λ v. diagnostic pc 16 (pos v)) (keep_if b (field_bx w) [])) + get_or p.children (field_bx w) 0 ≤ 255
@@ -255,7 +255,7 @@ row_within incoming row p v h k =
     let b : Within 10000 second = steps_within incoming row 1 (λ d. d ∷ []) (λ d. omega arith) (omega arith) cuts first a in
     let c : Within 10001 third = untested_within incoming row 10000 1 second (stack_diagnostics p) b (only_most (has_large_stack p) _) (omega arith) in
     let d = steps_within incoming row 256 (diagnostics_at p) (λ pc. word_most p pc h) (omega arith) pcs third (within_more (omega arith) c) in
-    rw (append-nil, foldl-append) d
+    rw (append-nil, foldl-append step) d
 
 -- all rows
 walk_within : (incoming row : ℕ) (ps : List Proto) (v : Walk) → All (λ (p : Proto). All (λ n. n ≤ 255) p.children) ps → Within 10255 v → Within 10255 (walk_from incoming row v (map proto_steps ps))

@@ -28,7 +28,7 @@ use Rattle.verdict.specs.Statements.{Accepted}
 use Rattle.opcodes.proofs.ByteLaws.{length_u32_record, u32s_record}
 use Rattle.opcodes.proofs.AllLaws.{all_append, all_up_from, all_up_to, flat_map_none}
 use Rattle.opcodes.proofs.ListLaws.{length_up_from, length_tabulate}
-use Rattle.opcodes.proofs.TestLaws.{T_true, by_cond}
+use Rattle.opcodes.proofs.TestLaws.{t_true, by_cond}
 use Rattle.chunk.proofs.RoleLaws.{role_executable, executable, owned_count}
 
 -- a word of an unknown opcode
@@ -92,7 +92,7 @@ executable_there n m pc h =
 
 one_before : (n m pc : ℕ) → pc < n → length (diagnostics_at (full_proto n m) pc) ≡ 1
 unfolding diagnostics_at word_diagnostics opcode_diagnostics is_unknown only
-one_before n m pc h = rw (T_true (executable_at (full_proto n m) pc) (executable_there n m pc (omega arith)), word_before n m pc h)
+one_before n m pc h = rw (t_true (executable_at (full_proto n m) pc) (executable_there n m pc (omega arith)), word_before n m pc h)
 
 one_after : (n m j : ℕ) → j < m → length (binding_diagnostics (full_proto n m) (n + 1 + j)) ≡ 1
 unfolding binding_diagnostics is_binding captured_register captured_upvalue not_below is only flatten
@@ -101,7 +101,7 @@ one_after n m j h = rw (word_after n m j h)
 binding_words_lem : (n m : ℕ) → binding_words (full_proto n m) n ≡ m
 unfolding binding_words existing binding_count is full_proto
 binding_words_lem n m =
-    rw (T_true (executable_at (full_proto n m) n) (executable_there n m n (omega arith)), word_there n m) (omega (arith, length_code n m))
+    rw (t_true (executable_at (full_proto n m) n) (executable_there n m n (omega arith)), word_there n m) (omega (arith, length_code n m))
 
 -- ones, end to end
 flat_map_ones : {A : Type 0} (f : A → List Diagnostic) {xs : List A} → All (λ x. length (f x) ≡ 1) xs → length (flat_map f xs) ≡ length xs
@@ -119,7 +119,7 @@ closure_there n m =
 
 many_there : (n m : ℕ) → length (diagnostics_at (full_proto n m) n) ≡ suc m
 unfolding diagnostics_at word_diagnostics opcode_diagnostics is_unknown only
-many_there n m = rw (T_true (executable_at (full_proto n m) n) (executable_there n m n (omega arith)), word_there n m) (closure_there n m)
+many_there n m = rw (t_true (executable_at (full_proto n m) n) (executable_there n m n (omega arith)), word_there n m) (closure_there n m)
 
 -- none is truncated: a word of opcode 63 owns nothing, and the CLOSURE has all m
 not_truncated : (n m pc o : ℕ) → owned (full_proto n m) pc ≡ o → pc + o < n + suc m → truncation_at (full_proto n m) pc ≡ []
@@ -225,7 +225,7 @@ proto_full n m e =
     let b : Reached n before = reached_as (zero-add (length (up_from 0 n)) ∙ length_up_from 0 n) (ones_reached 0 0 f (up_from 0 n) first (all_up_to (λ pc. length (f pc) ≡ 1) n (λ pc h. one_before n m pc h)) a (omega (arith, length_up_from 0 n))) in
     let c = step_reached 0 n before (tested_step (f n)) b (omega arith) in
     let d : Full (n + suc m) (advance 0 0 before (tested_step (f n))) = record { limit = omega arith; count = c.count ∙ ap (λ (k : ℕ). n + k) (many_there n m) } in
-    rw (full_steps n m, foldl-append) (full_words_lem 0 (n + suc m) f (up_from (suc n) m) (advance 0 0 before (tested_step (f n))) d)
+    rw (full_steps n m, foldl-append (advance 0 0)) (full_words_lem 0 (n + suc m) f (up_from (suc n) m) (advance 0 0 before (tested_step (f n))) d)
 
 -- ---- the image: row 0 with these words, and its child, without words
 

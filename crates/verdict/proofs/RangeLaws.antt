@@ -25,7 +25,7 @@ use Rattle.opcodes.proofs.AllLaws.{all_append, all_get_d, all_head, all_flatten,
 use Rattle.opcodes.proofs.ByteLaws.{length_u32s}
 use Rattle.opcodes.proofs.FieldLaws.{field_below, operand_below}
 use Rattle.opcodes.proofs.ListLaws.{length_tabulate}
-use Rattle.opcodes.proofs.TestLaws.{T_and, by_cond}
+use Rattle.opcodes.proofs.TestLaws.{t_and, by_cond}
 use Rattle.chunk.proofs.RefusalLaws.{FieldsKept, or_else_none, image_kept}
 use Rattle.chunk.proofs.TableLaws.{length_protos_of, children_most}
 use Rattle.chunk.proofs.WrittenLaws.{accepted_none}
@@ -73,7 +73,7 @@ pub record InRange (count : ℕ) (d : RowDiagnostic) : Type 0 where
 -- at a word: `T` computes at each code
 held : (pc code : ℕ) (z : ℤ) → pc < 2 ^ 31 → T (leb 1 code && leb code 17) → Signed32 z → Held (diagnostic pc code z)
 held pc code z h t s =
-    let k = T_and (leb 1 code) (leb code 17) t in
+    let k = t_and (leb 1 code) (leb code 17) t in
     record { pc = h; code = (leb→le 1 code k.0, leb→le code 17 k.1); value = s }
 
 all_only : {A : Type 0} {P : A → Type 0} (b : Bool) (x : A) → P x → All P (only b x)

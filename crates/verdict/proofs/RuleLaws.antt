@@ -19,7 +19,7 @@ use Rattle.verdict.specs.Diagnostics.{Diagnostic, diagnostic, is_error, not_belo
 use Rattle.verdict.specs.Statements.{RulesByCodes}
 use Rattle.verdict.specs.Rules.{Below, registers_of, constants_of, Lands, JumpKept, BindingKept, RulesAt, WellFormed}
 use Rattle.opcodes.proofs.AllLaws.{all_left, all_right, all_head, all_tail, all_flatten, flatten_all}
-use Rattle.opcodes.proofs.TestLaws.{T_true, T_false, not_not, double_not, by_cond}
+use Rattle.opcodes.proofs.TestLaws.{t_true, t_false, not_not, double_not, by_cond}
 use Rattle.chunk.proofs.RoleLaws.{exists, role, executable}
 
 abbrev pub Warns : Diagnostic → Type 0
@@ -77,7 +77,7 @@ unfolding flat_map
 tells_up_from f X i zero t = record { clean = λ c j h. absurd (not-suc-le-zero h); none = λ x. refl }
 tells_up_from f X i (suc n) t =
     tells_as
-    (λ xs. λ j. elim j [ zero ↦ λ h. subst X (sym (add-zero i)) xs.0 | suc k ↦ λ h. subst X (suc-add i k ∙ sym (add-suc i k)) (xs.1 k (le_of_suc-le-suc h)) ])
+    (λ xs. λ j. elim j as (λ k. k < suc n → X (i + k)) [ zero ↦ λ h. subst X (sym (add-zero i)) xs.0 | suc k ↦ λ h. subst X (suc-add i k ∙ sym (add-suc i k)) (xs.1 k (le_of_suc-le-suc h)) ])
     (λ g. (subst X (add-zero i) (g 0 (omega arith)), λ k h. subst X (add-suc i k ∙ sym (suc-add i k)) (g (suc k) (omega arith))))
     (tells_append (f i) (flat_map f (up_from (suc i) n))
     (subst (λ (m : ℕ). Tells (f m) (X m)) (add-zero i) (t 0 (omega arith)))
@@ -215,7 +215,7 @@ tells_word p pc whole = go (is_unknown (word_at p pc)) refl
 -- at an executable word
 tells_at : (p : Proto) (pc : ℕ) → Executable p pc → T (not (is_truncated p pc)) → Tells (diagnostics_at p pc) (RulesAt p pc)
 unfolding diagnostics_at
-tells_at p pc x whole = rw (T_true (executable_at p pc) x) (tells_word p pc whole)
+tells_at p pc x whole = rw (t_true (executable_at p pc) x) (tells_word p pc whole)
 
 tells_truncation : (p : Proto) (pc : ℕ) → Tells (truncation_at p pc) (T (not (is_truncated p pc)))
 unfolding truncation_at
@@ -257,7 +257,7 @@ no_diagnostics p k pc =
 pub known_none : (p : Proto) (pc : ℕ) → T (not (is_unknown (word_at p pc))) → KnownKept p pc → diagnostics_at p pc ≡ []
 unfolding diagnostics_at word_diagnostics opcode_diagnostics only
 known_none p pc known k =
-    none_elsewhere p pc (λ b. cond b (word_diagnostics p pc (word_at p pc)) []) refl (λ x. rw (T_true (executable_at p pc) x, T_false (is_unknown (word_at p pc)) known) ((tells_kept p pc).none k))
+    none_elsewhere p pc (λ b. cond b (word_diagnostics p pc (word_at p pc)) []) refl (λ x. rw (t_true (executable_at p pc) x, t_false (is_unknown (word_at p pc)) known) ((tells_kept p pc).none k))
 
 -- document 01's own sentence: a prototype keeps the rules when no condition of codes 1, 2 and 4 to 17 holds in it
 pub well_formed_iff_none : (p : Proto) → WellFormed p ↔ ((pc : ℕ) → pc < length p.code → (truncation_at p pc ≡ []) × (diagnostics_at p pc ≡ []))

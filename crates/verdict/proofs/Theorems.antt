@@ -242,4 +242,4 @@ unsafe_companion s = (all_head (all_tail s.met)).executable
 -- and some prototype keeps them all: a RETURN of register 0
 pub keeps_all : WellFormed (one_word 0x0080001e 1)
 unfolding truncation_at executable_at is_truncated companions existing owned claims binding_count has_extra role_at roles roles_from word_at diagnostics_at word_diagnostics opcode_diagnostics is_unknown known_diagnostics jump_diagnostics is_jump skip_diagnostics is_skip is_loadbool_skip operand_diagnostics not_below constant_bx upvalue_b flag_a register_a span_ends register_in constant_in child_bx binding_words is B C only flatten flat_map
-keeps_all = (well_formed_iff_none (one_word 0x0080001e 1)).1 (λ pc. elim pc [ zero ↦ λ h. (refl, refl) | suc n ↦ λ h. absurd (not-suc-le-zero (le_of_suc-le-suc h)) ])
+keeps_all = (well_formed_iff_none (one_word 0x0080001e 1)).1 (λ pc. elim pc as (λ n. n < 1 → (truncation_at (one_word 0x0080001e 1) n ≡ []) × (diagnostics_at (one_word 0x0080001e 1) n ≡ [])) [ zero ↦ λ h. (refl, refl) | suc n ↦ λ h. absurd (not-suc-le-zero (le_of_suc-le-suc h)) ])

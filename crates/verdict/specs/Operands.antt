@@ -3,7 +3,7 @@
 use Rattle.std.specs.Prelude.{ℕ, ◌+◌, ◌-◌, Bool, ◌&&◌, ◌||◌, not, ltb, ℤ, pos, ◌+ℤ◌}
 use mathlib.Core.List.{List, [], ◌∷◌, flatten}
 use Rattle.opcodes.specs.Lists.{only}
-use Rattle.opcodes.specs.Words.{Field, B, C, operand, opcode, field_a, field_bx, field_sbx, is, is_constant, constant_index, without_a, with_sbx, MOVE, LOADK, LOADBOOL, GETUPVAL, GETGLOBAL, SETGLOBAL, SETUPVAL, SELF, EQ, Lt, Le, TEST, TESTSET, CALL, TAILCALL, RETURN, FORLOOP, FORPREP, TFORLOOP, SETLIST, CLOSURE, VARARG}
+use Rattle.opcodes.specs.Words.{Field, B, C, operand, opcode, field_a, field_bx, field_sbx, is, is_constant, constant_index, without_a, with_sbx, MOVE, LOADK, LOADBOOL, GETUPVAL, GETGLOBAL, SETGLOBAL, SETUPVAL, SELF, EQ, LT, LE, TEST, TESTSET, CALL, TAILCALL, RETURN, FORLOOP, FORPREP, TFORLOOP, SETLIST, CLOSURE, VARARG}
 
 -- "opcode above 37": such a word names nothing
 unfoldable pub is_unknown : ℕ → Bool
@@ -23,9 +23,9 @@ target pc w = pos (pc + 1) +ℤ field_sbx w
 unfoldable pub is_loadbool_skip : ℕ → Bool
 is_loadbool_skip w = is w (LOADBOOL ∷ []) && ltb 0 (operand C w)
 
--- "A skip goes to place + 2: EQ, Lt, Le, TEST, TESTSET, TFORLOOP, and LOADBOOL with C not 0"
+-- "A skip goes to place + 2: EQ, LT, LE, TEST, TESTSET, TFORLOOP, and LOADBOOL with C not 0"
 unfoldable pub is_skip : ℕ → Bool
-is_skip w = is w (EQ ∷ Lt ∷ Le ∷ TEST ∷ TESTSET ∷ TFORLOOP ∷ []) || is_loadbool_skip w
+is_skip w = is w (EQ ∷ LT ∷ LE ∷ TEST ∷ TESTSET ∷ TFORLOOP ∷ []) || is_loadbool_skip w
 
 -- the pc that it skips to
 unfoldable pub skip_target : ℕ → ℕ
@@ -41,9 +41,9 @@ constant_bx w = only (is w (LOADK ∷ GETGLOBAL ∷ SETGLOBAL ∷ [])) (field_bx
 unfoldable pub upvalue_b : ℕ → List ℕ
 upvalue_b w = only (is w (GETUPVAL ∷ SETUPVAL ∷ [])) (operand B w)
 
--- "EQ, Lt, Le: A": a comparison's flag
+-- "EQ, LT, LE: A": a comparison's flag
 unfoldable pub flag_a : ℕ → List ℕ
-flag_a w = only (is w (EQ ∷ Lt ∷ Le ∷ [])) (field_a w)
+flag_a w = only (is w (EQ ∷ LT ∷ LE ∷ [])) (field_a w)
 
 -- "register A": a register in all known opcodes but four
 unfoldable pub register_a : ℕ → List ℕ

@@ -1,4 +1,6 @@
 // One number for a list of words, for benchmarks of the word split and comparisons of it with the Rust.
+#![tactic(auto)]
+
 ghost use Rattle.std.specs.Prelude.{◌≡◌, ◌<◌};
 ghost use Rattle.opcodes.specs.Bytes.{u32s};
 ghost use Rattle.words_digest.specs.Digest.{digest, kind_weight, opcode_weight, unknown_number, weight};
@@ -22,6 +24,7 @@ pub extern "C" fn words_digest(words: &[u8]) -> u64
     sum
 }
 
+#[tactic(auto, unfolding(crate::specs::Digest::weight))]
 fn weigh(w: RawInstruction51) -> u64
     ensures { result ≡ weight w }
 {
@@ -37,6 +40,7 @@ fn weigh(w: RawInstruction51) -> u64
         + opcode
 }
 
+#[tactic(auto, unfolding(crate::specs::Digest::opcode_weight))]
 fn weigh_opcode(o: OpcodeField) -> u64
     ensures value { result ≡ opcode_weight o }
     ensures upper_bound { result < 300 }
@@ -44,6 +48,7 @@ fn weigh_opcode(o: OpcodeField) -> u64
     weigh_kind(o) + unknown_number(o)
 }
 
+#[tactic(auto, unfolding(crate::specs::Digest::kind_weight))]
 fn weigh_kind(o: OpcodeField) -> u64
     ensures value { result ≡ kind_weight o }
     ensures upper_bound { result < 24 }
@@ -54,6 +59,7 @@ fn weigh_kind(o: OpcodeField) -> u64
     }
 }
 
+#[tactic(auto, unfolding(crate::specs::Digest::unknown_number))]
 fn unknown_number(o: OpcodeField) -> u64
     ensures value { result ≡ unknown_number o }
     ensures upper_bound { result < 256 }

@@ -1,0 +1,10 @@
+-- After i turns the first i values stand in the buffer.
+use Rattle.std.proofs.Common.{◌≡◌, ◌-◌, ◌≤◌, length, take}
+use Rattle.opcodes.specs.Bytes.{overwrite, u32_record}
+use Rattle.opcodes.proofs.bytes.put_record.Given as goal
+
+abbrev pub invariant-loop-i : goal.invariant-loop-i
+invariant-loop-i l = (l.i ≤ length l.values) × (l.out ≡ overwrite l.initial.out l.at (u32_record (take l.i l.values)))
+
+abbrev pub decreases-loop-i : goal.decreases-loop-i
+decreases-loop-i l = length l.values - l.i

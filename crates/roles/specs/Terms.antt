@@ -1,0 +1,143 @@
+-- What the code's own types stand for: the terms in which its contracts cite the other definitions. Assumes nothing: these are definitions.
+use Rattle.std.specs.Prelude.{◌≡◌, ℕ, zero, suc, ◌+◌, ◌*◌, ◌/◌, ◌%◌, ◌^◌, ◌<◌, ◌≤◌, cond, List, [], ◌∷◌, length, drop, pos, ◌==◌, nat_lt, slice_index, slice_index_or, slice_range}
+use Rattle.std.proofs.Math.Option.{Option, none, some}
+use Rattle.opcodes.specs.Bytes.{u32_at, i32_bits}
+use Rattle.opcodes.specs.Lists.{tabulate, total}
+use Rattle.opcodes.specs.Words.{is, field_bx, CLOSURE}
+use Rattle.chunk.specs.Table.{Row, row_bytes, field_at, row_at, rows, child_at, Proto, proto_of}
+use Rattle.chunk.specs.Roles.{Role, Instruction, ClosureBinding, SetlistExtra, has_extra, role_fields, role_bytes}
+use Rattle.chunk.specs.Bindings.{binding_total}
+use Rattle.chunk.specs.Refusals.{Refused}
+use Rattle.chunk.specs.Calls.{Answer, refused, accepted}
+use Rattle.roles.specs.declared.refusals.Refusal.{Refusal}
+use Rattle.roles.specs.declared.refusals.Refusal.TheVariants as refusal
+use Rattle.roles.specs.declared.refusals.Acceptance.{Acceptance}
+use Rattle.roles.specs.declared.refusals.Acceptance.TheVariants as acceptance
+use Rattle.roles.specs.declared.calls.Answer.{Answer as Answered}
+use Rattle.roles.specs.declared.calls.Answer.TheVariants as answered
+use Rattle.roles.specs.declared.table.Child.{Child}
+use Rattle.roles.specs.declared.table.Child.TheVariants as child
+use Rattle.roles.specs.declared.search.Cursor.{Cursor}
+use Rattle.roles.specs.declared.discovery.Companions.{Companions}
+use Rattle.roles.specs.declared.discovery.Companions.TheVariants.{None, Bindings, Extra}
+use Rattle.roles.specs.declared.role.Lua51PhysicalRole.{Lua51PhysicalRole}
+use Rattle.roles.specs.declared.role.Lua51PhysicalRole.TheVariants as physical
+
+-- ---- refusals and answers
+
+-- the number and the figure of each refusal: no parts, ragged sheet, overfull, loose part, odd figure, miscount, short role tray, short tray
+unfoldable pub refused_of : Refusal → Refused
+refused_of refusal.NoProtos = record { number = 1; figure = 0 }
+refused_of refusal.PartialRow = record { number = 2; figure = 0 }
+refused_of refusal.TooLarge = record { number = 3; figure = 0 }
+refused_of (refusal.BadDepth row) = record { number = 4; figure = row }
+refused_of (refusal.FieldOverLimit row) = record { number = 5; figure = row }
+refused_of refusal.WordCountMismatch = record { number = 6; figure = 0 }
+refused_of refusal.RoleBufferTooShort = record { number = 7; figure = 0 }
+refused_of (refusal.BufferTooShort records) = record { number = 8; figure = records }
+
+-- the refusal that it stands for, if any
+unfoldable pub given_refusal : Acceptance → Option Refused
+given_refusal (acceptance.Refused r) = some (refused_of r)
+given_refusal acceptance.Accepted = none
+
+-- a call's answer
+unfoldable pub answer_of : Answered → Answer ℕ
+answer_of (answered.Refused r) = refused (refused_of r)
+answer_of (answered.Records n) = accepted n
+
+-- field k of all rows, added up
+unfoldable pub field_total : List ℕ → ℕ → ℕ
+field_total table k = total (tabulate (length table / row_bytes) (λ i. field_at table i k))
+
+-- ---- children
+
+-- so many binding records have the rows from i on that stand before row j
+unfoldable pub records_between : List ℕ → ℕ → ℕ → ℕ
+records_between table i j = binding_total (slice_range (rows table) i j)
+
+-- where a child was found: the index of its first binding record, if that of row `at` has index `first`, and its row. The code counts records
+-- modulo 2 ^ 32
+unfoldable pub child_from : List ℕ → ℕ → ℕ → Option Row → Child
+child_from table at first none = child.Missing
+child_from table at first (some r) = child.Row ((first + records_between table at r.row) % 2 ^ 32) r.row
+
+-- child k of the prototype in row `parent`
+unfoldable pub child_of_row : List ℕ → ℕ → ℕ → Option Row
+child_of_row table parent k = child_at (row_at table parent).depth (drop (suc parent) (rows table)) k
+
+-- child i in an index, which has two numbers for each: its row and the index of its first binding record
+abbrev pub in_index : List ℕ → ℕ → Child
+in_index index i = child.Row (slice_index index (2 * i + 1)) (slice_index index (2 * i))
+
+-- it has room for as many children as there are rows
+abbrev pub RoomForChildren : List ℕ → List ℕ → Type 0
+RoomForChildren table index = 2 * (length table / row_bytes) ≤ length index
+
+-- what a cursor knows of the prototype in row `parent`: its first children stand in the index, as many as the cursor says; from the cursor's row
+-- on, its children are counted from that number; the cursor's `first` is how many binding records stand between the prototype's own and those of
+-- that row, modulo 2 ^ 32; from its `end` on there are no children
+pub record Tracks (table : List ℕ) (parent : ℕ) (index : List ℕ) (c : Cursor) : Type 0 where
+  pub room : RoomForChildren table index
+  pub within : c.known ≤ c.end
+  pub few : c.end ≤ length table / row_bytes
+  pub indexed : (i : ℕ) → i < c.known → in_index index i ≡ child_from table (suc parent) 0 (child_of_row table parent i)
+  pub later : parent < c.row
+  pub counts : c.first ≡ records_between table (suc parent) c.row % 2 ^ 32
+  pub resumes : (k : ℕ) → child_of_row table parent (c.known + k) ≡ child_at (row_at table parent).depth (drop c.row (rows table)) k
+  pub ends : (k : ℕ) → c.end ≤ k → child_of_row table parent k ≡ none
+
+-- ---- companions
+
+-- the prototype of row i, from the words from its first on
+unfoldable pub proto_in : List ℕ → ℕ → List ℕ → Proto
+proto_in table i words = proto_of (row_at table i) (drop (suc i) (rows table)) words
+
+-- so many binding records, modulo 2 ^ 32, stand between those of a row and those of its child
+unfoldable pub records_before : List ℕ → ℕ → Option Row → ℕ
+records_before table row none = 0
+records_before table row (some c) = records_between table (suc row) c.row % 2 ^ 32
+
+-- so many binding words, or none, of a child; `first` binding records stand between those of the row and those of the child
+unfoldable pub owned_bindings : ℕ → ℕ → Companions
+owned_bindings zero first = None
+owned_bindings (suc n) first = Bindings (suc n) first
+
+-- a CLOSURE's companions, by the child that it names
+unfoldable pub child_bindings : List ℕ → ℕ → ℕ → Companions
+child_bindings table row k = owned_bindings (slice_index (proto_in table row []).children k) (records_before table row (child_of_row table row k))
+
+-- what an executable word of the row owns
+unfoldable pub companions_of : List ℕ → ℕ → ℕ → Companions
+companions_of table row w = cond (is w (CLOSURE ∷ [])) (child_bindings table row (field_bx w)) (cond (has_extra w) Extra None)
+
+-- the roles that they take
+unfoldable pub claimed_roles : ℕ → Companions → List Role
+claimed_roles pc None = []
+claimed_roles pc (Bindings n first) = tabulate n (ClosureBinding pc)
+claimed_roles pc Extra = SetlistExtra pc ∷ []
+
+-- ---- the records of a role buffer
+
+-- a role
+abbrev pub role_of : Lua51PhysicalRole → Role
+role_of physical.Instruction = Instruction
+role_of (physical.ClosureBinding owner index) = ClosureBinding owner index
+role_of (physical.SetlistExtra owner) = SetlistExtra owner
+
+-- the bits of its first field
+unfoldable pub owner_field : Role → ℕ
+owner_field r = i32_bits (slice_index_or (role_fields r) 0 (pos 0))
+
+-- of the second field
+unfoldable pub index_field : Role → ℕ
+index_field r = i32_bits (slice_index_or (role_fields r) 1 (pos 0))
+
+-- the role whose fields have these bits
+unfoldable pub role_from : ℕ → ℕ → Role
+role_from owner index = cond (owner == 0xffff_ffff) Instruction (cond (index == 0xffff_ffff) (SetlistExtra owner) (ClosureBinding owner index))
+
+-- the role of the word at pc, from the records of its prototype. A pc past them counts as executable
+unfoldable pub role_in : List ℕ → ℕ → Role
+role_in records pc =
+    cond (nat_lt pc (length records / role_bytes)) (role_from (u32_at records (role_bytes * pc)) (u32_at records (role_bytes * pc + 4))) Instruction

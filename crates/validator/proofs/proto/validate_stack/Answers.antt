@@ -1,0 +1,6 @@
+-- A stack of more than 250 is warned of.
+use Rattle.validator.proofs.OwnLaws.{stack_warned}
+use Rattle.validator.proofs.proto.validate_stack.Goals as goal
+
+pub returns : goal.returns
+returns c p l = stack_warned _ p _ l _ _ c.emit_if.ensures

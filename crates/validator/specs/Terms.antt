@@ -1,0 +1,148 @@
+-- What the code's own types stand for: the terms in which its contracts cite the definitions of `verdict`. Assumes nothing: these are definitions.
+use Rattle.std.specs.Prelude.{◌≡◌, ℕ, suc, ◌+◌, ◌/◌, ◌<◌, ◌≤◌, Bool, not, ◌&&◌, ◌||◌, List, [], ◌∷◌, length, drop, pos, nat_lt, slice_index, slice_index_or}
+use Rattle.std.proofs.Math.Option.{none}
+use Rattle.opcodes.specs.Bytes.{u32s}
+use Rattle.opcodes.specs.Words.{Field, operand, is, is_constant, decoded}
+use Rattle.opcodes.specs.declared.Opcode51.{Opcode51}
+use Rattle.opcodes.specs.declared.OpcodeField.TheVariants.{Known}
+use Rattle.opcodes.specs.declared.RawInstruction51.{RawInstruction51}
+use Rattle.chunk.specs.Table.{Proto, row_bytes, row_at, rows, children}
+use Rattle.chunk.specs.Roles.{Role, Instruction, ClosureBinding, SetlistExtra, role_at}
+use Rattle.chunk.specs.Refusals.{bad_depth, max_rows}
+use Rattle.chunk.specs.Calls.{Answer, refused, accepted}
+use Rattle.roles.specs.Terms.{refused_of, role_in}
+use Rattle.verdict.specs.Diagnostics.{Diagnostic, diagnostic}
+use Rattle.verdict.specs.Walk.{Verdict, ValidForParser, Incomplete, Invalid, max_diagnostics, verdict_of}
+use Rattle.verdict.specs.Image.{Image}
+use Rattle.verdict.specs.Check.{Checked}
+use Rattle.validator.specs.declared.calls.Validation.{Validation}
+use Rattle.validator.specs.declared.calls.Validation.TheVariants as validation
+use Rattle.validator.specs.declared.calls.Verdict.{Verdict as VerdictCode}
+use Rattle.validator.specs.declared.calls.Verdict.TheVariants as code
+use Rattle.validator.specs.declared.fault.Lua51RoleFault.{Lua51RoleFault}
+use Rattle.validator.specs.declared.fault.Lua51RoleFault.TheVariants as fault
+use Rattle.validator.specs.declared.operands.OperandField.{OperandField}
+use Rattle.validator.specs.declared.operands.Span.{Span}
+use Rattle.validator.specs.declared.operands.Span.TheVariants as span
+use Rattle.validator.specs.declared.prototype.Prototype.{Prototype}
+use Rattle.validator.specs.declared.walk.WalkState.{WalkState}
+
+-- ---- the call
+
+-- the image that the call is given
+abbrev pub image_of : List ℕ → List ℕ → ℕ → ℕ → Image
+image_of table words warnings errors = record { table = table; words = words; warnings = warnings; errors = errors }
+
+-- a verdict
+unfoldable pub verdict_in : VerdictCode → Verdict
+verdict_in code.ValidForParser = ValidForParser
+verdict_in code.Incomplete = Incomplete
+verdict_in code.Invalid = Invalid
+
+-- the call's answer
+unfoldable pub answer_of : Validation → Answer Checked
+answer_of (validation.Refused r) = refused (refused_of r)
+answer_of (validation.Checked v n) = accepted (record { verdict = verdict_in v; count = n })
+
+-- what a walk that has ended says
+unfoldable pub concluded : ℕ → ℕ → WalkState → Checked
+concluded warnings errors w =
+    record {
+      verdict = verdict_of (nat_lt 0 errors || w.error) (w.limit || nat_lt max_diagnostics (warnings + errors + w.count));
+      count = w.count;
+    }
+
+-- ---- a prototype
+
+-- how many children the prototype in row i has
+abbrev pub child_count : List ℕ → ℕ → ℕ
+child_count table i = length (children (row_at table i).depth (drop (suc i) (rows table)))
+
+-- the prototype in row i, by its fields
+unfoldable pub prototype_of : List ℕ → ℕ → Prototype
+prototype_of table i =
+    let r = row_at table i in
+    record {
+      row = i;
+      depth = r.depth;
+      words = r.words;
+      constants = r.constants;
+      upvalues = r.upvalues;
+      stack = r.stack;
+      children = child_count table i;
+    }
+
+-- a list has the number of children of each row
+pub record ChildCounts (table counts : List ℕ) : Type 0 where
+  pub room : length table / row_bytes ≤ length counts
+  pub counted : (i : ℕ) → i < length table / row_bytes → slice_index counts i ≡ child_count table i
+
+-- the rows are in preorder, and not too many
+pub record Ordered (table : List ℕ) : Type 0 where
+  pub depths : bad_depth 0 0 (rows table) ≡ none
+  pub few : length table / row_bytes ≤ max_rows
+
+-- the rows from `row` on were counted: a list has the number of children of each, and a second one, at each depth but 0, how many of them are of this
+-- depth and stand before any that is less deep; at depth 0, at most as many as were counted
+pub record Counted (table : List ℕ) (row : ℕ) (counts pending : List ℕ) : Type 0 where
+  pub room : length table / row_bytes ≤ length counts
+  pub deep : length pending ≡ 201
+  pub counted : (i : ℕ) → row ≤ i → i < length table / row_bytes → slice_index counts i ≡ child_count table i
+  pub opened : (d : ℕ) → d < 200 → slice_index pending (suc d) ≡ length (children d (drop row (rows table)))
+  pub roots : slice_index_or pending 0 0 + row ≤ length table / row_bytes
+
+-- the limits of a prototype's operands are these
+pub record Limits (p : Proto) (q : Prototype) : Type 0 where
+  pub constants : p.constants ≡ q.constants
+  pub upvalues : p.upvalues ≡ q.upvalues
+  pub stack : p.stack ≡ q.stack
+  pub children : length p.children ≡ q.children
+
+-- so many words has it, and these are their roles
+pub record Stands (p : Proto) (q : Prototype) (records : List ℕ) : Type 0 where
+  pub words : length p.code ≡ q.words
+  pub roles : (pc : ℕ) → role_in records pc ≡ role_at p pc
+
+-- all that the code is given of it
+pub record Describes (p : Proto) (q : Prototype) (bytes records : List ℕ) : Type 0 where
+  pub limits : Limits p q
+  pub stands : Stands p q records
+  pub code : p.code ≡ u32s bytes
+
+-- ---- a word
+
+-- the word was split, and its opcode is known
+pub record Decodes (op : Opcode51) (w : RawInstruction51) : Type 0 where
+  pub split : w ≡ decoded w.raw
+  pub known : w.opcode ≡ Known op
+
+-- the last register of a span
+unfoldable pub ends : Span → List ℕ
+ends span.None = []
+ends (span.To last) = last ∷ []
+
+-- field B or C of a word
+unfoldable pub operand_field : Field → ℕ → OperandField
+operand_field f w = record { fixed = is w f.fixed; rk = is w f.rk; value = operand f w }
+
+-- it names a register
+unfoldable pub names_register : OperandField → Bool
+names_register f = f.fixed || f.rk && not (is_constant f.value)
+
+-- it names a constant
+unfoldable pub names_constant : OperandField → Bool
+names_constant f = f.rk && is_constant f.value
+
+-- ---- truncated owners
+
+-- the owner of a word at pc that has this role, or that pc where it is executable
+unfoldable pub last_owner : ℕ → Role → ℕ
+last_owner pc Instruction = pc
+last_owner pc (ClosureBinding owner index) = owner
+last_owner pc (SetlistExtra owner) = owner
+
+-- codes 1 and 2
+unfoldable pub fault_diagnostics : Lua51RoleFault → List Diagnostic
+fault_diagnostics fault.None = []
+fault_diagnostics (fault.TruncatedClosure pc upvalues) = diagnostic pc 1 (pos upvalues) ∷ []
+fault_diagnostics (fault.TruncatedSetlist pc) = diagnostic pc 2 (pos 0) ∷ []

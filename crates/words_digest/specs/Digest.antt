@@ -1,4 +1,4 @@
--- One number for a list of words: the sum of their decoded fields, each with a weight. It serves comparisons with the Rust.
+-- One number for a list of words: the sum of their decoded fields, each with a weight. It serves comparisons with the Rust, and nothing of document 01.
 -- Assumes nothing: these are definitions.
 use Rattle.std.specs.Prelude.{ℕ, ◌+◌, ◌*◌, ◌%◌, ◌^◌, cond, List}
 use mathlib.Core.List.{foldl}

@@ -21,7 +21,7 @@
  * A call writes to its buffers and to nothing else. Nothing is allocated, nothing is kept after a call, there is no
  * global state, and no function of the C library is called but memset: any number of threads and signal handlers may
  * call at the same time, each with buffers and stack of its own; they may share an image, which is only read.
- * The archive is for x86-64, level v2, with the System V calling convention, as on Linux.
+ * The archive is for x86-64 with the System V calling convention, as on Linux.
  *
  * A call takes at most LUAD51_STACK_BYTES of stack, and a caller that does not know its image must have as much. As
  * compiled for x86-64 luad51_roles and luad51_bindings take about 132,000 of them, also where they are refused, most of

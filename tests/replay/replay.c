@@ -2,7 +2,7 @@
  * and buffers with the answers stored there. Where records are stored, the calls are made again with buffers that they
  * fill exactly, with each buffer somewhat shorter or longer, and the check call with an empty diagnostics buffer, with
  * one for as many diagnostics as there can be and with one for one less.
- *     (cd crates/luad51 && rt lib)
+ *     (cd crates/luad51 && rt lib --cpu=x86-64)
  *     cc -std=c99 -O2 -Iinclude -o replay tests/replay/replay.c tests/replay/answers.c crates/luad51/out/libluad51.a
  *     ./replay tests/answers/small.txt tests/answers/large.txt
  * Exit status: 0 no difference, 1 differences, 2 a file is unreadable or malformed. */

@@ -51,36 +51,47 @@ struct packed {
     uint32_t refusal;
     uint32_t figure;
     uint32_t verdict;
+    int checked;
     int passed;
 };
 
 static void read_results(void)
 {
     static const struct packed PACKED[] = {
-        {0x0, 0, 0, 0, 1},
-        {0x280f, 0, 10255, 0, 1},
-        {0xffffffff, 0, 4294967295u, 0, 1},
-        {0x10000000000, 0, 0, 1, 0},
-        {0x10000000001, 0, 1, 1, 0},
-        {0x20000000000, 0, 0, 2, 0},
-        {0x2000000280f, 0, 10255, 2, 0},
-        {0x100000000, 1, 0, 0, 0},
-        {0x200000000, 2, 0, 0, 0},
-        {0x300000000, 3, 0, 0, 0},
-        {0x400003fff, 4, 16383, 0, 0},
-        {0x500003fff, 5, 16383, 0, 0},
-        {0x600000000, 6, 0, 0, 0},
-        {0x700000000, 7, 0, 0, 0},
-        {0x8003fc000, 8, 4177920, 0, 0},
-        {0x0000ff0000000000, 0, 0, 255, 0},
-        {0x000000ff00000000, 255, 0, 0, 0},
-        {0xffff000000000000, 0, 0, 0, 1},
+        /* of an accepted check */
+        {0x800000000000, 0, 0, 0, 1, 1},
+        {0x80000000280f, 0, 10255, 0, 1, 1},
+        {0x8000ffffffff, 0, 4294967295u, 0, 1, 1},
+        {0x810000000000, 0, 0, 1, 1, 0},
+        {0x810000000001, 0, 1, 1, 1, 0},
+        {0x820000000000, 0, 0, 2, 1, 0},
+        {0x82000000280f, 0, 10255, 2, 1, 0},
+        /* that nobody set, and of another accepted call */
+        {0x0, 0, 0, 0, 0, 0},
+        {0x1, 0, 1, 0, 0, 0},
+        {0x3fc000, 0, 4177920, 0, 0, 0},
+        /* of a refused call */
+        {0x100000000, 1, 0, 0, 0, 0},
+        {0x200000000, 2, 0, 0, 0, 0},
+        {0x300000000, 3, 0, 0, 0, 0},
+        {0x400003fff, 4, 16383, 0, 0, 0},
+        {0x500003fff, 5, 16383, 0, 0, 0},
+        {0x600000000, 6, 0, 0, 0, 0},
+        {0x700000000, 7, 0, 0, 0, 0},
+        {0x8003fc000, 8, 4177920, 0, 0, 0},
+        /* of no call: each accessor reads its own bits */
+        {0x00007f0000000000, 0, 0, 127, 0, 0},
+        {0x000000ff00000000, 255, 0, 0, 0, 0},
+        {0x000080ff00000000, 255, 0, 0, 1, 0},
+        {0xffff800000000000, 0, 0, 0, 1, 1},
+        {0xffff7fffffffffff, 255, 4294967295u, 127, 0, 0},
     };
     in_case("reading results");
     for (size_t i = 0; i < COUNT(PACKED); i++) {
         expect("refusal", PACKED[i].refusal, luad51_refusal(PACKED[i].result));
         expect("figure", PACKED[i].figure, luad51_figure(PACKED[i].result));
         expect("verdict", PACKED[i].verdict, luad51_verdict(PACKED[i].result));
+        expect("checked", (uint64_t)PACKED[i].checked, (uint64_t)luad51_checked(PACKED[i].result));
         expect("passed", (uint64_t)PACKED[i].passed, (uint64_t)luad51_passed(PACKED[i].result));
     }
 }

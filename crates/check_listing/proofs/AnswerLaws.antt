@@ -16,14 +16,14 @@ use Rattle.verdict.specs.Check.{Checked, check_answer, check_refusal, checked, d
 use Rattle.verdict.specs.Image.{Image, diagnostics}
 use Rattle.verdict.specs.Walk.{RowDiagnostic, diagnostic_bytes, diagnostic_fields}
 use Rattle.verdict.proofs.RangeLaws.{check_held}
-use Rattle.validator.specs.Terms.{answer_of, verdict_in}
+use Rattle.validator.specs.Terms.{answer_of, verdict_of_case}
 use Rattle.validator.specs.declared.calls.Validation.{Validation}
 use Rattle.validator.specs.declared.calls.Validation.TheVariants as validation
 use Rattle.validator.specs.declared.calls.Verdict.{Verdict as VerdictCode}
 use Rattle.listing.specs.Listing.{done}
 use Rattle.listing.specs.Packcheck.{answer_text, diagnostic_room, max_diagnostics, output_text, refusal_text, result_text, role_room}
-use Rattle.check_listing.specs.Terms.{diagnostics_in}
-use Rattle.check_listing.proofs.RecordLaws.{diagnostics_read}
+use Rattle.verdict.specs.Records.{diagnostics_in}
+use Rattle.verdict.proofs.RecordLaws.{diagnostics_read}
 
 -- an accepted image
 module _ (i : Image) (c : Checked) (e : check_answer i role_room diagnostic_room ≡ accepted c) where
@@ -59,15 +59,15 @@ module _ (i : Image) (r : Validation) (answered : answer_of r ≡ check_answer i
 
   -- a verdict
   module _ (v : VerdictCode) (n : ℕ) (e : r ≡ validation.Checked v n) where
-    accepted_is : check_answer i role_room diagnostic_room ≡ accepted (record { verdict = verdict_in v; count = n })
+    accepted_is : check_answer i role_room diagnostic_room ≡ accepted (record { verdict = verdict_of_case v; count = n })
     unfolding answer_of
     accepted_is = sym answered ∙ ap answer_of e
 
     pub result_count : n ≤ max_diagnostics
-    result_count = (accepted_count i (record { verdict = verdict_in v; count = n }) accepted_is).1
+    result_count = (accepted_count i (record { verdict = verdict_of_case v; count = n }) accepted_is).1
 
-    pub result_output : (old new : List ℕ) → length old ≡ diagnostic_room → new ≡ diagnostics_after i role_room old → result_text (diagnostics_in new n) (record { verdict = verdict_in v; count = n }) ≡ output_text (done i)
+    pub result_output : (old new : List ℕ) → length old ≡ diagnostic_room → new ≡ diagnostics_after i role_room old → result_text (diagnostics_in new n) (record { verdict = verdict_of_case v; count = n }) ≡ output_text (done i)
     unfolding output_text answer_text
     result_output old new long after =
-        ap (λ (ds : List RowDiagnostic). result_text ds (record { verdict = verdict_in v; count = n })) (diagnostics_are i (record { verdict = verdict_in v; count = n }) accepted_is old new long after)
+        ap (λ (ds : List RowDiagnostic). result_text ds (record { verdict = verdict_of_case v; count = n })) (diagnostics_are i (record { verdict = verdict_of_case v; count = n }) accepted_is old new long after)
         ∙ ap (answer_text (diagnostics i)) (sym accepted_is)

@@ -1,12 +1,10 @@
 -- What the code's own types stand for, and where it stands in a reading or a text: the terms in which its contracts cite the definitions of `listing`.
 -- Assumes nothing: these are definitions.
-use Rattle.std.specs.Prelude.{ℕ, suc, ◌+◌, ◌-◌, ◌*◌, ◌^◌, ◌≤◌, ◌≡◌, Bool, true, false, ◌&&◌, cond, eqb, ltb, leb, length, get_or, take, drop, ℤ, pos, negsuc}
+use Rattle.std.specs.Prelude.{ℕ, suc, ◌+◌, ◌*◌, ◌^◌, ◌≤◌, ◌≡◌, Bool, true, false, ◌&&◌, cond, eqb, ltb, leb, length, get_or, take, drop}
 use mathlib.Core.List.{List, [], ◌∷◌, flatten}
 use Rattle.std.proofs.Math.Option.{Option, none, some}
-use Rattle.opcodes.specs.Bytes.{overwrite, u32_at, u32_record}
-use Rattle.opcodes.specs.Lists.{tabulate}
+use Rattle.opcodes.specs.Bytes.{overwrite, u32_record}
 use Rattle.chunk.specs.Table.{row_bytes}
-use Rattle.verdict.specs.Walk.{RowDiagnostic, diagnostic_bytes}
 use Rattle.verdict.specs.Image.{Image}
 use Rattle.listing.specs.Text.{newline, lines, is_decimal, same, value_of}
 use Rattle.listing.specs.Packcheck.{max_diagnostics}
@@ -132,23 +130,6 @@ ListingFits (listing.Read n m warnings errors) = (n ≤ max_listing_rows) × (m 
 pub record Prints (old : List ℕ) (at : ℕ) (t new : List ℕ) (end : ℕ) : Type 0 where
   pub bytes : new ≡ overwrite old at t
   pub ends : end ≡ at + length t
-
--- the i32 that these 32 bits are
-unfoldable pub signed : ℕ → ℤ
-signed bits = cond (ltb bits (2 ^ 31)) (pos bits) (negsuc (0xffff_ffff - bits))
-
--- record i of a diagnostics buffer
-unfoldable pub diagnostic_in : List ℕ → ℕ → RowDiagnostic
-diagnostic_in buffer i =
-    let at = diagnostic_bytes * i in
-    record {
-      row = u32_at buffer at;
-      diagnostic = record { pc = signed (u32_at buffer (at + 4)); code = u32_at buffer (at + 8); value = signed (u32_at buffer (at + 12)) };
-    }
-
--- its first records
-unfoldable pub diagnostics_in : List ℕ → ℕ → List RowDiagnostic
-diagnostics_in buffer count = tabulate count (diagnostic_in buffer)
 
 -- the longest line of a diagnostic: numbers of 10 digits, two of them signed, and a name of 16 characters
 abbrev pub longest_diagnostic : ℕ

@@ -1,6 +1,6 @@
 // The check of a listing: all that packcheck does but reading its input and writing its output.
 ghost use Rattle.std.specs.Prelude.{◌≡◌, ℕ, ◌≤◌, List, length, take};
-ghost use Rattle.check_listing.specs.Terms.{Prints, output_bytes, unread as refused};
+ghost use Rattle.check_listing.specs.Terms.{Prints, output_bytes, unread};
 ghost use Rattle.listing.specs.Listing.{done};
 ghost use Rattle.listing.specs.Longest.{input_bytes};
 ghost use Rattle.listing.specs.Packcheck.{output_text, packcheck};
@@ -52,11 +52,11 @@ pub fn check_listing(input: &[u8], output: &mut [u8; OUTPUT_LEN]) -> usize
 }
 
 // Refusals 9 and 10.
-fn print_unread(output: &mut [u8], unread: Unread) -> usize
+fn print_unread(output: &mut [u8], why: Unread) -> usize
     requires { output_bytes ≤ length output.old }
-    ensures { Prints output.old 0 (output_text (refused unread)) output.new result }
+    ensures { Prints output.old 0 (output_text (unread why)) output.new result }
 {
-    match unread {
+    match why {
         Unread::MalformedLine(line) => print_refusal(output, 9, line),
         Unread::ListingTooLong(line) => print_refusal(output, 10, line),
     }

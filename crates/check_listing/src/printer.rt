@@ -1,6 +1,7 @@
 // Text into a byte buffer. Each function writes from `at` on and answers where its text ends.
 ghost use Rattle.std.specs.Prelude.{◌≡◌, ◌+◌, ◌-◌, ◌%◌, ◌<◌, ◌≤◌, [], ◌∷◌, ◌++◌, length};
-ghost use Rattle.check_listing.specs.Terms.{Prints, signed};
+ghost use Rattle.check_listing.specs.Terms.{Prints};
+ghost use Rattle.verdict.specs.Records.{signed};
 ghost use Rattle.listing.specs.Packcheck.{code_name};
 ghost use Rattle.listing.specs.Text.{decimal, digits, integer, text as text_of};
 

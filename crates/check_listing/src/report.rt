@@ -1,11 +1,12 @@
 // What packcheck writes: a refusal as the only line, or the diagnostics and the verdict.
 ghost use Rattle.std.specs.Prelude.{◌≡◌, ◌+◌, ◌*◌, ◌≤◌, length};
 ghost use mathlib.Core.List.{[], ◌∷◌, ◌++◌, flat_map};
-ghost use Rattle.check_listing.specs.Terms.{Prints, diagnostic_in, diagnostics_in, longest_answer, longest_diagnostic};
+ghost use Rattle.check_listing.specs.Terms.{Prints, longest_answer, longest_diagnostic};
+ghost use Rattle.verdict.specs.Records.{diagnostic_in, diagnostics_in};
 ghost use Rattle.listing.specs.Packcheck.{diagnostic_text, refusal_text, result_text, verdict_name};
 ghost use Rattle.listing.specs.Text.{text as text_of};
 ghost use Rattle.roles.specs.Terms.{refused_of};
-ghost use Rattle.validator.specs.Terms.{verdict_in};
+ghost use Rattle.validator.specs.Terms.{verdict_of_case};
 
 use crate::printer::{print_code, print_number, print_signed, print_text};
 use opcodes::bytes::read_u32;
@@ -25,7 +26,7 @@ pub fn print_refusal(out: &mut [u8], number: usize, figure: usize) -> usize
 // The diagnostics of a buffer, so many, and the verdict.
 pub fn print_result(out: &mut [u8], diagnostics: &[u8], count: usize, verdict: Verdict) -> usize
     requires { longest_answer count ≤ length out.old }
-    ensures { Prints out.old 0 (result_text (diagnostics_in diagnostics.now count) (record { verdict = verdict_in verdict; count = count })) out.new result }
+    ensures { Prints out.old 0 (result_text (diagnostics_in diagnostics.now count) (record { verdict = verdict_of_case verdict; count = count })) out.new result }
 {
     let first = print_text(out, 0, b"row place code value\n");
     let second = print_diagnostics(out, first, diagnostics, count);
@@ -66,7 +67,7 @@ fn print_diagnostic(out: &mut [u8], at: usize, diagnostics: &[u8], i: usize) -> 
 // A verdict's name, and a space.
 fn print_verdict(out: &mut [u8], at: usize, verdict: Verdict) -> usize
     requires { at + 15 ≤ length out.old }
-    ensures { Prints out.old at (text_of (verdict_name (verdict_in verdict)) ++ (32 ∷ [])) out.new result }
+    ensures { Prints out.old at (text_of (verdict_name (verdict_of_case verdict)) ++ (32 ∷ [])) out.new result }
 {
     match verdict {
         Verdict::ValidForParser => print_text(out, at, b"ValidForParser "),

@@ -145,6 +145,13 @@ companion_unread p pc [] (v ∷ ws) (suc k) w t = ap (λ (l : List Role). Instru
 companion_unread p pc (r ∷ claimed) (v ∷ ws) zero w t = refl
 companion_unread p pc (r ∷ claimed) (v ∷ ws) (suc k) w t = ap (λ (l : List Role). r ∷ l) (companion_unread p (suc pc) claimed ws k w t)
 
+-- roles depend on the words and on the children alone
+pub roles_by_children : (p q : Proto) (e : p.children ≡ q.children) (pc : ℕ) (claimed : List Role) (ws : List ℕ) → roles_from p pc claimed ws ≡ roles_from q pc claimed ws
+unfolding roles_from claims binding_count
+roles_by_children p q e pc claimed [] = refl
+roles_by_children p q e pc [] (w ∷ ws) = rw e (ap (λ (l : List Role). Instruction ∷ l) (roles_by_children p q e (suc pc) (claims q pc w) ws))
+roles_by_children p q e pc (r ∷ claimed) (w ∷ ws) = ap (λ (l : List Role). r ∷ l) (roles_by_children p q e (suc pc) claimed ws)
+
 -- ---- claimed words
 
 -- as many as exist take their roles, and the word after them is looked at next

@@ -1,16 +1,19 @@
 // The C interface, as include/luad51.h declares it. A call's answer goes out as one number.
 #![tactic(auto)]
 
-ghost use Rattle.std.specs.Prelude.{◌≡◌, length};
-ghost use Rattle.luad51.specs.Results.{Guaranteed, ReadAs, Reads, ReadsCheck, check_result, count_result, packed, refused_result, verdict_number};
+ghost use Rattle.std.specs.Prelude.{◌≡◌, ◌+◌, ◌<◌, ◌^◌, false, true, length};
+ghost use Rattle.luad51.specs.Results.{Guaranteed, ReadAs, Reads, ReadsCheck, check_result, checked_bit, count_result, packed, refused_result, verdict_number};
 ghost use Rattle.chunk.specs.Calls.{bindings_after, bindings_answer, roles_after, roles_answer};
 ghost use Rattle.roles.specs.Terms.{answer_of, refused_of};
-ghost use Rattle.validator.specs.Terms.{answer_of as validationOf, image_of, verdict_in};
+ghost use Rattle.validator.specs.Terms.{answer_of as validationOf, image_of, verdict_of_case};
 ghost use Rattle.verdict.specs.Check.{check_answer, diagnostics_after};
 
 use roles::calls::{Answer, write_bindings, write_roles};
 use roles::refusals::Refusal;
 use validator::calls::{Validation, Verdict, validate_chunk_lua51};
+
+// The bit of a result that an accepted check sets, and nothing else.
+const CHECKED: u64 = 0x8000_0000_0000;
 
 // The roles call.
 #[unsafe(no_mangle)]
@@ -65,13 +68,14 @@ fn check_result(validation: Validation) -> u64
 {
     match validation {
         Validation::Refused(refusal) => refused_result(refusal),
-        Validation::Checked(verdict, count) => pack(count, 0, verdict_number(verdict)),
+        Validation::Checked(verdict, count) => pack_checked(count, verdict_number(verdict)),
     }
 }
 
-#[tactic(auto, unfolding(crate::specs::Results::verdict_number, validator::specs::Terms::verdict_in))]
+#[tactic(auto, unfolding(crate::specs::Results::verdict_number, validator::specs::Terms::verdict_of_case))]
 fn verdict_number(verdict: Verdict) -> u8
-    ensures { result ≡ verdict_number (verdict_in verdict) }
+    ensures value { result ≡ verdict_number (verdict_of_case verdict) }
+    ensures small { result < 2 ^ 7 }
 {
     match verdict {
         Verdict::ValidForParser => 0,
@@ -88,30 +92,38 @@ fn count_result(answer: Answer) -> u64
 {
     match answer {
         Answer::Refused(refusal) => refused_result(refusal),
-        Answer::Records(count) => pack(count, 0, 0),
+        Answer::Records(count) => pack(count, 0),
     }
 }
 
 #[tactic(auto, unfolding(crate::specs::Results::refused_result, roles::specs::Terms::refused_of))]
 fn refused_result(refusal: Refusal) -> u64
     ensures value { result ≡ refused_result (refused_of refusal) }
-    ensures read_as { ReadAs result (refused_of refusal).number (refused_of refusal).figure 0 }
+    ensures read_as { ReadAs result (refused_of refusal).number (refused_of refusal).figure 0 false }
 {
     match refusal {
-        Refusal::NoProtos => pack(0, 1, 0),
-        Refusal::PartialRow => pack(0, 2, 0),
-        Refusal::TooLarge => pack(0, 3, 0),
-        Refusal::BadDepth(row) => pack(row, 4, 0),
-        Refusal::FieldOverLimit(row) => pack(row, 5, 0),
-        Refusal::WordCountMismatch => pack(0, 6, 0),
-        Refusal::RoleBufferTooShort => pack(0, 7, 0),
-        Refusal::BufferTooShort(records) => pack(records, 8, 0),
+        Refusal::NoProtos => pack(0, 1),
+        Refusal::PartialRow => pack(0, 2),
+        Refusal::TooLarge => pack(0, 3),
+        Refusal::BadDepth(row) => pack(row, 4),
+        Refusal::FieldOverLimit(row) => pack(row, 5),
+        Refusal::WordCountMismatch => pack(0, 6),
+        Refusal::RoleBufferTooShort => pack(0, 7),
+        Refusal::BufferTooShort(records) => pack(records, 8),
     }
 }
 
-fn pack(figure: u32, refusal: u8, verdict: u8) -> u64
-    ensures value { result ≡ packed figure refusal verdict }
-    ensures read_as { ReadAs result refusal figure verdict }
+fn pack(figure: u32, refusal: u8) -> u64
+    ensures value { result ≡ packed figure refusal 0 }
+    ensures read_as { ReadAs result refusal figure 0 false }
 {
-    (figure as u64) + 0x1_0000_0000 * (refusal as u64) + 0x100_0000_0000 * (verdict as u64)
+    (figure as u64) + 0x1_0000_0000 * (refusal as u64)
+}
+
+fn pack_checked(figure: u32, verdict: u8) -> u64
+    requires { verdict < 2 ^ 7 }
+    ensures value { result ≡ packed figure 0 verdict + checked_bit }
+    ensures read_as { ReadAs result 0 figure verdict true }
+{
+    (figure as u64) + 0x100_0000_0000 * (verdict as u64) + CHECKED
 }

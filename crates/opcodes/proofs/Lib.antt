@@ -1,9 +1,9 @@
 pub mod AllLaws
-pub mod Arms
 pub mod ByteLaws
 pub mod FieldLaws
 pub mod ListLaws
 pub mod OpcodeLaws
 pub mod PartLaws
 pub mod Signed
+pub mod SplitLaws
 pub mod TestLaws

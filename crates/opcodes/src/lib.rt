@@ -2,7 +2,7 @@
 #![tactic(auto)]
 
 ghost use Rattle.std.specs.Prelude.{◌≡◌};
-ghost use Rattle.opcodes.specs.Words.{B, C, a_is_register, constant_index, decoded, is_constant, is_fixed_register, is_rk, mode_of, opcode_of};
+ghost use Rattle.opcodes.specs.Words.{B, C, a_is_register, constant_index, decoded, is_constant, is_fixed_register, is_rk, mode_of, opcode_number, opcode_of};
 
 pub mod bytes;
 
@@ -82,9 +82,10 @@ pub struct RawInstruction51 {
 
 impl Opcode51 {
     // The opcode of a number, where it is known.
-    #[tactic(auto, unfolding(crate::specs::Words::opcode_of, crate::specs::Words::opcodes, crate::specs::Words::opcode_at))]
+    #[tactic(auto, unfolding(crate::specs::Words::opcode_of, crate::specs::Words::opcodes, crate::specs::Words::opcode_at, crate::specs::Words::opcode_number, crate::specs::Words::number_of))]
     pub fn from_u8(val: u8) -> OpcodeField
-        ensures { result ≡ opcode_of val }
+        ensures opcode { result ≡ opcode_of val }
+        ensures number { opcode_number result ≡ val }
     {
         match val {
             0 => OpcodeField::Known(Opcode51::Move),

@@ -7,7 +7,6 @@ pub mod ImageCheckLaws
 pub mod MarkLaws
 pub mod OwnerLaws
 pub mod RoleFillLaws
-pub mod RoleLookupLaws
 pub mod RolePassLaws
 pub mod RolesCallLaws
 pub mod SearchLaws

@@ -1,11 +1,10 @@
 -- What the code's own types stand for: the terms in which its contracts cite the other definitions. Assumes nothing: these are definitions.
-use Rattle.std.specs.Prelude.{◌≡◌, ℕ, zero, suc, ◌+◌, ◌*◌, ◌/◌, ◌%◌, ◌^◌, ◌<◌, ◌≤◌, cond, List, [], ◌∷◌, length, drop, pos, ◌==◌, nat_lt, slice_index, slice_index_or, slice_range}
+use Rattle.std.specs.Prelude.{◌≡◌, ℕ, zero, suc, ◌+◌, ◌*◌, ◌/◌, ◌%◌, ◌^◌, ◌<◌, ◌≤◌, cond, List, [], ◌∷◌, length, drop, slice_index, slice_range}
 use Rattle.std.proofs.Math.Option.{Option, none, some}
-use Rattle.opcodes.specs.Bytes.{u32_at, i32_bits}
 use Rattle.opcodes.specs.Lists.{tabulate, total}
 use Rattle.opcodes.specs.Words.{is, field_bx, CLOSURE}
-use Rattle.chunk.specs.Table.{Row, row_bytes, field_at, row_at, rows, child_at, Proto, proto_of}
-use Rattle.chunk.specs.Roles.{Role, Instruction, ClosureBinding, SetlistExtra, has_extra, role_fields, role_bytes}
+use Rattle.chunk.specs.Table.{Row, row_bytes, field_at, row_at, rows, child_at, child_of_row, proto_in}
+use Rattle.chunk.specs.Roles.{Role, Instruction, ClosureBinding, SetlistExtra, has_extra}
 use Rattle.chunk.specs.Bindings.{binding_total}
 use Rattle.chunk.specs.Refusals.{Refused}
 use Rattle.chunk.specs.Calls.{Answer, refused, accepted}
@@ -62,10 +61,6 @@ unfoldable pub child_from : List ℕ → ℕ → ℕ → Option Row → Child
 child_from table at first none = child.Missing
 child_from table at first (some r) = child.Row ((first + records_between table at r.row) % 2 ^ 32) r.row
 
--- child k of the prototype in row `parent`
-unfoldable pub child_of_row : List ℕ → ℕ → ℕ → Option Row
-child_of_row table parent k = child_at (row_at table parent).depth (drop (suc parent) (rows table)) k
-
 -- child i in an index, which has two numbers for each: its row and the index of its first binding record
 abbrev pub in_index : List ℕ → ℕ → Child
 in_index index i = child.Row (slice_index index (2 * i + 1)) (slice_index index (2 * i))
@@ -88,10 +83,6 @@ pub record Tracks (table : List ℕ) (parent : ℕ) (index : List ℕ) (c : Curs
   pub ends : (k : ℕ) → c.end ≤ k → child_of_row table parent k ≡ none
 
 -- ---- companions
-
--- the prototype of row i, from the words from its first on
-unfoldable pub proto_in : List ℕ → ℕ → List ℕ → Proto
-proto_in table i words = proto_of (row_at table i) (drop (suc i) (rows table)) words
 
 -- so many binding records, modulo 2 ^ 32, stand between those of a row and those of its child
 unfoldable pub records_before : List ℕ → ℕ → Option Row → ℕ
@@ -117,27 +108,10 @@ claimed_roles pc None = []
 claimed_roles pc (Bindings n first) = tabulate n (ClosureBinding pc)
 claimed_roles pc Extra = SetlistExtra pc ∷ []
 
--- ---- the records of a role buffer
+-- ---- roles
 
 -- a role
 abbrev pub role_of : Lua51PhysicalRole → Role
 role_of physical.Instruction = Instruction
 role_of (physical.ClosureBinding owner index) = ClosureBinding owner index
 role_of (physical.SetlistExtra owner) = SetlistExtra owner
-
--- the bits of its first field
-unfoldable pub owner_field : Role → ℕ
-owner_field r = i32_bits (slice_index_or (role_fields r) 0 (pos 0))
-
--- of the second field
-unfoldable pub index_field : Role → ℕ
-index_field r = i32_bits (slice_index_or (role_fields r) 1 (pos 0))
-
--- the role whose fields have these bits
-unfoldable pub role_from : ℕ → ℕ → Role
-role_from owner index = cond (owner == 0xffff_ffff) Instruction (cond (index == 0xffff_ffff) (SetlistExtra owner) (ClosureBinding owner index))
-
--- the role of the word at pc, from the records of its prototype. A pc past them counts as executable
-unfoldable pub role_in : List ℕ → ℕ → Role
-role_in records pc =
-    cond (nat_lt pc (length records / role_bytes)) (role_from (u32_at records (role_bytes * pc)) (u32_at records (role_bytes * pc + 4))) Instruction

@@ -5,9 +5,9 @@ ghost use Rattle.opcodes.specs.Lists.{tabulate};
 ghost use Rattle.chunk.specs.Bindings.{writes};
 ghost use Rattle.chunk.specs.Refusals.{max_rows, max_word_bytes};
 ghost use Rattle.chunk.specs.Roles.{ClosureBinding, records_of, role_bytes, roles};
-ghost use Rattle.chunk.specs.Table.{row_at, row_bytes};
+ghost use Rattle.chunk.specs.Table.{row_at, row_bytes, proto_in};
 ghost use Rattle.roles.specs.BindingSteps.{BindsFrom, bound_in};
-ghost use Rattle.roles.specs.Terms.{RoomForChildren, Tracks, child_bindings, claimed_roles, companions_of, owned_bindings, proto_in};
+ghost use Rattle.roles.specs.Terms.{RoomForChildren, Tracks, child_bindings, claimed_roles, companions_of, owned_bindings};
 ghost use Rattle.roles.specs.declared.discovery.Companions.TheVariants.{Extra, None};
 
 use crate::bindings::bind_claim;

@@ -6,9 +6,10 @@ use Rattle.opcodes.specs.Bytes.{u32s, i32_record, u32_record, overwrite}
 use Rattle.opcodes.proofs.ByteLaws.{length_u32s, length_overwrite, overwrite_none}
 use Rattle.chunk.specs.Calls.{answer, refused, accepted, filled, roles_answer, roles_after}
 use Rattle.chunk.specs.Refusals.{Refused, or_else, refuse, refuse_if, too_short, roles_refusal, word_total}
-use Rattle.chunk.specs.Roles.{role_at, role_bytes, records_of, roles}
-use Rattle.chunk.specs.Table.{Row, Proto, row_bytes, row_at, rows, protos, protos_of, proto_of}
-use Rattle.roles.specs.Terms.{refused_of, answer_of as rolesAnswerOf, proto_in, role_in}
+use Rattle.chunk.specs.Roles.{role_at, role_bytes, records_of, roles, role_in}
+use Rattle.chunk.specs.Table.{Row, Proto, row_bytes, row_at, rows, protos, protos_of, proto_of, proto_in}
+use Rattle.roles.specs.Terms.{refused_of, answer_of as rolesAnswerOf}
+use Rattle.chunk.proofs.RoleLookupLaws.{role_looked_up}
 use Rattle.roles.specs.declared.calls.Answer.{Answer as Answered}
 use Rattle.roles.specs.declared.calls.Answer.TheVariants as answered
 use Rattle.roles.specs.declared.refusals.Refusal.{Refusal}
@@ -18,11 +19,10 @@ use Rattle.chunk.proofs.TotalLaws.{protos_drop}
 use Rattle.chunk.proofs.TableLaws.{drop_rows, length_rows}
 use Rattle.chunk.proofs.TotalLaws.{words_front, words_next}
 use Rattle.chunk.proofs.WrittenLaws.{accepted_none}
-use Rattle.roles.proofs.RoleLookupLaws.{role_looked_up}
 use Rattle.verdict.specs.Check.{Checked, checked, check_refusal, check_answer, diagnostics_after}
 use Rattle.verdict.specs.Image.{Image, diagnostics}
 use Rattle.verdict.specs.Statements.{Accepted, Guarantee}
-use Rattle.verdict.specs.Walk.{max_diagnostics, diagnostic_fields, diagnostic_bytes}
+use Rattle.verdict.specs.Walk.{max_diagnostics, most_diagnostics, diagnostic_fields, diagnostic_bytes}
 use Rattle.verdict.proofs.GuaranteeLaws.{check_guaranteed}
 use Rattle.verdict.proofs.LimitLaws.{at_most}
 use Rattle.validator.specs.Terms.{answer_of, concluded, image_of}
@@ -189,7 +189,7 @@ module _ (i : Image) (records : List ℕ) (a : Answered) (judgedRoles : rolesAns
       )
 
   -- the largest number of diagnostics fits
-  pub most_fit : (n len : ℕ) → a ≡ answered.Records n → 10255 ≤ len / diagnostic_bytes → diagnostic_bytes * length (diagnostics i) ≤ len
+  pub most_fit : (n len : ℕ) → a ≡ answered.Records n → most_diagnostics ≤ len / diagnostic_bytes → diagnostic_bytes * length (diagnostics i) ≤ len
   unfolding Accepted roles_refusal
   most_fit n len e h = omega (arith, at_most i (or_else_none _ _ (not_refused n e)).0)
 

@@ -11,11 +11,11 @@ use Rattle.opcodes.specs.declared.RawInstruction51.{RawInstruction51}
 use Rattle.opcodes.proofs.AllLaws.{all_flatten}
 use Rattle.opcodes.proofs.FieldLaws.{operand_below}
 use Rattle.opcodes.proofs.TestLaws.{t_and, t_true, t_false, double_not, by_or}
-use Rattle.chunk.specs.Roles.{Role, Executable, executable_at, is_executable, role_at, word_at, binding_words}
+use Rattle.chunk.specs.Roles.{Role, Executable, executable_at, is_executable, role_at, word_at, binding_words, role_in}
 use Rattle.chunk.specs.Table.{Proto}
 use Rattle.chunk.proofs.RoleLaws.{executable}
-use Rattle.roles.specs.Terms.{role_in}
-use Rattle.verdict.specs.Operands.{is_jump, is_skip, is_loadbool_skip, skip_target, constant_bx, upvalue_b, flag_a, register_a, span_ends, register_in, constant_in, child_bx, is_unknown}
+use Rattle.opcodes.proofs.SplitLaws.{raw_of, split_again}
+use Rattle.verdict.specs.Operands.{is_jump, is_skip, is_loadbool_skip, skip_target, constant_bx, upvalue_b, flag_a, flag_limit, register_a, span_ends, register_in, constant_in, child_bx, is_unknown}
 use Rattle.verdict.specs.Rules.{Below, Lands, JumpKept, BindingKept, registers_of, constants_of}
 use Rattle.verdict.specs.Diagnostics.{diagnostics_at}
 use Rattle.verdict.proofs.RuleLaws.{known_none}
@@ -23,7 +23,6 @@ use Rattle.validator.specs.Clean.{FlowKept, OperandsBelow, limits_of, shapes}
 use Rattle.validator.specs.Terms.{Describes, Limits, Stands}
 use Rattle.validator.specs.declared.prototype.Prototype.{Prototype}
 use Rattle.validator.proofs.DescribedLaws.{looked_up, word_read}
-use Rattle.validator.proofs.FaultLaws.{raw_of, split_again}
 use Rattle.validator.proofs.OwnLaws.{executes}
 use Rattle.validator.proofs.BindingLaws.{bindings_end, only_closures}
 use Rattle.validator.proofs.OperandLaws.{skips, split_number, split_a, split_b, split_c, split_bx}
@@ -65,12 +64,12 @@ module _ (q : Prototype) (w : ℕ) where
   abbrev limit : ℕ → ℕ
   limit k = get_or (limits_of q) k 0
 
-  -- a value is below the limit that its opcode has a place of
-  at : (x place k : ℕ) → ltb x (limit place) ≡ true → place ≡ k → x < limit k
-  at x place k h e = subst (λ (i : ℕ). x < limit i) e (ltb-true _ _ h)
+  -- a value is below the limit that its opcode has a slot of
+  at : (x slot k : ℕ) → ltb x (limit slot) ≡ true → slot ≡ k → x < limit k
+  at x slot k h e = subst (λ (i : ℕ). x < limit i) e (ltb-true _ _ h)
 
   module _ (h : ltb (field_a w) (limit (shape (opcode w) % 16)) ≡ true) where
-    flag : Below 2 (flag_a w)
+    flag : Below flag_limit (flag_a w)
     unfolding flag_a is shapes limits_of
     flag = below_if _ _ _ (λ t. at _ _ 8 h (has (EQ ∷ LT ∷ LE ∷ []) (λ n. shape n % 16) 8 (opcode w) tt t))
 
@@ -79,8 +78,8 @@ module _ (q : Prototype) (w : ℕ) where
     register known =
         below_if _ _ _ (λ t.
         let rest = t_false (elem (opcode w) without_a) (t_and (not (is_unknown w)) (not (elem (opcode w) without_a)) t).1 in
-        let place = up_to (λ n. elem n without_a || eqb (shape n % 16) 2) 0 38 (opcode w) tt (omega arith) known in
-        at _ _ 2 h (eqb→eq (shape (opcode w) % 16) 2 (subst (λ (b : Bool). T (b || eqb (shape (opcode w) % 16) 2)) rest place)))
+        let slot = up_to (λ n. elem n without_a || eqb (shape n % 16) 2) 0 38 (opcode w) tt (omega arith) known in
+        at _ _ 2 h (eqb→eq (shape (opcode w) % 16) 2 (subst (λ (b : Bool). T (b || eqb (shape (opcode w) % 16) 2)) rest slot)))
 
   module _ (h : ltb (field_bx w) (limit (shape (opcode w) / 16 % 16)) ≡ true) where
     constant : Below q.constants (constant_bx w)
@@ -92,9 +91,9 @@ module _ (q : Prototype) (w : ℕ) where
     child = below_if _ _ _ (λ t. at _ _ 9 h (has (CLOSURE ∷ []) (λ n. shape n / 16 % 16) 9 (opcode w) tt t))
 
   -- B or C
-  module _ (f : Field) (place : ℕ) (h : ltb (operand f w % 256) (limit (place + operand f w / 256)) ≡ true) where
+  module _ (f : Field) (slot : ℕ) (h : ltb (operand f w % 256) (limit (slot + operand f w / 256)) ≡ true) where
     -- where values with the bit of a constant have the limit 0
-    plain : (k : ℕ) → place ≡ k → limit (k + 1) ≡ 0 → operand f w < limit k
+    plain : (k : ℕ) → slot ≡ k → limit (k + 1) ≡ 0 → operand f w < limit k
     plain k e z = go (leb 256 (operand f w)) refl
       where
         go : (b : Bool) → leb 256 (operand f w) ≡ b → operand f w < limit k
@@ -107,7 +106,7 @@ module _ (q : Prototype) (w : ℕ) where
             let same : operand f w % 256 ≡ operand f w = omega arith in
             subst (λ (n : ℕ). n < limit k) same (at _ _ k h (omega arith))
 
-    module _ (fixed : T (is w f.fixed) → place ≡ 2) (rk : T (is w f.rk) → place ≡ 4) where
+    module _ (fixed : T (is w f.fixed) → slot ≡ 2) (rk : T (is w f.rk) → slot ≡ 4) where
       field_register : Below q.stack (register_in f w)
       unfolding register_in is_constant limits_of
       field_register =
@@ -118,8 +117,8 @@ module _ (q : Prototype) (w : ℕ) where
           let both = t_and (is w f.rk) (not (leb 256 (operand f w))) t in
           let low = leb-false 256 (operand f w) (t_false (leb 256 (operand f w)) both.1) in
           let same : operand f w % 256 ≡ operand f w = omega arith in
-          let place-4 = rk both.0 in
-          subst (λ (n : ℕ). n < q.stack) same (at (operand f w % 256) (place + operand f w / 256) 4 h (omega arith))))
+          let slot-4 = rk both.0 in
+          subst (λ (n : ℕ). n < q.stack) same (at (operand f w % 256) (slot + operand f w / 256) 4 h (omega arith))))
 
       field_constant : Below q.constants (constant_in f w)
       unfolding constant_in is_constant constant_index limits_of
@@ -128,8 +127,8 @@ module _ (q : Prototype) (w : ℕ) where
           let both = t_and (is w f.rk) (leb 256 (operand f w)) t in
           let high = leb→le 256 (operand f w) both.1 in
           let same : operand f w % 256 ≡ operand f w - 256 = omega (arith, operand_below f w) in
-          let place-4 = rk both.0 in
-          rw (t_true (leb 256 (operand f w)) both.1) (subst (λ (n : ℕ). n < q.constants) same (at (operand f w % 256) (place + operand f w / 256) 5 h (omega (arith, operand_below f w)))))
+          let slot-4 = rk both.0 in
+          rw (t_true (leb 256 (operand f w)) both.1) (subst (λ (n : ℕ). n < q.constants) same (at (operand f w % 256) (slot + operand f w / 256) 5 h (omega (arith, operand_below f w)))))
 
   upvalue : ltb (operand B w % 256) (limit (shape (opcode w) / 256 % 16 + operand B w / 256)) ≡ true → Below q.upvalues (upvalue_b w)
   unfolding upvalue_b is shapes limits_of
@@ -186,7 +185,7 @@ module _ (q : Prototype) (w : ℕ) where
 
 -- ---- as the code has them
 
--- the places are in the list, and a word goes one of 16 ways
+-- the slots are in the list, and a word goes one of 16 ways
 bounded : (f : ℕ → ℕ) (k n : ℕ) → T (every (λ m. ltb (f m) k) (up_from 0 38)) → n < 38 → f n < k
 bounded f k n t h = ltb→lt (f n) k (up_to (λ m. ltb (f m) k) 0 38 n t (omega arith) h)
 
@@ -200,26 +199,26 @@ module _ (q : Prototype) (limits : List ℕ) (s : ℕ) (w : RawInstruction51)
   unfolding limits_of
   ten = ap length pre.0
 
-  pub place_a : s % 16 < length limits
+  pub slot_a : s % 16 < length limits
   unfolding shapes
-  place_a = rw (pre.3, ten) (bounded (λ m. shape m % 16) 10 w.opcode_num tt pre.2)
+  slot_a = rw (pre.3, ten) (bounded (λ m. shape m % 16) 10 w.opcode_num tt pre.2)
 
-  pub place_bx : s / 16 % 16 < length limits
+  pub slot_bx : s / 16 % 16 < length limits
   unfolding shapes
-  place_bx = rw (pre.3, ten) (bounded (λ m. shape m / 16 % 16) 10 w.opcode_num tt pre.2)
+  slot_bx = rw (pre.3, ten) (bounded (λ m. shape m / 16 % 16) 10 w.opcode_num tt pre.2)
 
-  pub place_b : (s / 256 % 16 < 16) × (s / 256 % 16 + 1 < length limits) × (w.b < 512)
+  pub slot_b : (s / 256 % 16 < 16) × (s / 256 % 16 + 1 < length limits) × (w.b < 512)
   unfolding shapes
-  place_b = (omega arith, rw (pre.3, ten) (bounded (λ m. shape m / 256 % 16 + 1) 10 w.opcode_num tt pre.2), subst⁻¹ (λ (n : ℕ). n < 512) (split_b w pre.1) (operand_below B w.raw))
+  slot_b = (omega arith, rw (pre.3, ten) (bounded (λ m. shape m / 256 % 16 + 1) 10 w.opcode_num tt pre.2), subst⁻¹ (λ (n : ℕ). n < 512) (split_b w pre.1) (operand_below B w.raw))
 
-  pub place_c : (s / 4096 % 16 < 16) × (s / 4096 % 16 + 1 < length limits) × (w.c < 512)
+  pub slot_c : (s / 4096 % 16 < 16) × (s / 4096 % 16 + 1 < length limits) × (w.c < 512)
   unfolding shapes
-  place_c = (omega arith, rw (pre.3, ten) (bounded (λ m. shape m / 4096 % 16 + 1) 10 w.opcode_num tt pre.2), subst⁻¹ (λ (n : ℕ). n < 512) (split_c w pre.1) (operand_below C w.raw))
+  slot_c = (omega arith, rw (pre.3, ten) (bounded (λ m. shape m / 4096 % 16 + 1) 10 w.opcode_num tt pre.2), subst⁻¹ (λ (n : ℕ). n < 512) (split_c w pre.1) (operand_below C w.raw))
 
   of_opcode : s ≡ shape (opcode w.raw)
   of_opcode = pre.3 ∙ ap shape (split_number w pre.1)
 
-  -- a test with a place and a value
+  -- a test with a slot and a value
   below_of : (x y : ℕ) (f : ℕ → ℕ) → x ≡ y → ltb x (get_or limits (f s) 0) ≡ true → ltb y (get_or (limits_of q) (f (shape (opcode w.raw))) 0) ≡ true
   below_of x y f e h =
       ap (λ (n : ℕ). ltb n (get_or (limits_of q) (f (shape (opcode w.raw))) 0)) (sym e)

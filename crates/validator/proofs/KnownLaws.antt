@@ -1,11 +1,12 @@
 -- All diagnostics of a word, whose opcode is known or not. Assumes nothing.
-use Rattle.std.proofs.Common.{◌≡◌, ℕ, zero, suc, ◌+◌, ◌<◌, Bool, true, false, T, ltb, List, [], ◌∷◌, length, sym, refl, ap, ◌∙◌, subst, le_of_suc-le-suc, not-suc-le-zero, arith, ltb-false}
+use Rattle.std.proofs.Common.{◌≡◌, ℕ, ◌+◌, Bool, true, false, T, ltb, [], ◌∷◌, sym, ap, ◌∙◌, subst}
 use mathlib.Core.List.{flat_map, flatten}
 use Rattle.opcodes.specs.Lists.{elem, only, up_from}
-use Rattle.opcodes.specs.Words.{opcode, is, decoded, opcodes, opcode_at, opcode_of, number_of, CLOSURE}
+use Rattle.opcodes.specs.Words.{opcode, is, decoded, number_of, CLOSURE}
 use Rattle.opcodes.specs.declared.Opcode51.{Opcode51}
 use Rattle.opcodes.specs.declared.OpcodeField.TheVariants.{Known, Unknown}
 use Rattle.opcodes.specs.declared.RawInstruction51.{RawInstruction51}
+use Rattle.opcodes.proofs.OpcodeLaws.{unknown_above}
 use Rattle.chunk.specs.Roles.{word_at, binding_words}
 use Rattle.chunk.specs.Table.{Proto}
 use Rattle.verdict.specs.Diagnostics.{opcode_diagnostics, jump_diagnostics, skip_diagnostics, operand_diagnostics, binding_diagnostics, known_diagnostics, word_diagnostics}
@@ -14,23 +15,8 @@ use Rattle.validator.specs.Terms.{Decodes}
 use Rattle.validator.specs.Steps.{State, emitted, emit_all}
 use Rattle.validator.proofs.BindingLaws.{only_closures}
 use Rattle.validator.proofs.EmitLaws.{emits_word, emits_none, emits_cons, emits_end, emits_join}
-use Rattle.validator.proofs.FaultLaws.{split_again}
+use Rattle.opcodes.proofs.SplitLaws.{split_again}
 use Rattle.validator.proofs.OperandLaws.{not_unknown, listed}
-
--- a number that is not known is above the last that is
-listed_known : (os : List Opcode51) (k n m : ℕ) → k < length os → opcode_at os k n ≡ Unknown m → ⊥
-unfolding opcode_at
-listed_known [] k n m h q = not-suc-le-zero h
-listed_known (o ∷ os) zero n m h q = let z : ◌≡◌ {A = ℕ} 0 1 = cc in absurd (omega arith)
-listed_known (o ∷ os) (suc k) n m h q = listed_known os k n m (le_of_suc-le-suc h) q
-
-unknown_above : (n m : ℕ) → opcode_of n ≡ Unknown m → ltb 37 n ≡ true
-unfolding opcode_of opcodes
-unknown_above n m q = go (ltb 37 n) refl
-  where
-    go : (b : Bool) → ltb 37 n ≡ b → ltb 37 n ≡ true
-    go true e = e
-    go false e = absurd (listed_known opcodes n n m (omega (arith, ltb-false 37 n e)) q)
 
 -- the word was split
 pub decodes : (op : Opcode51) (w : RawInstruction51) (v : ℕ) → w ≡ decoded v → w.opcode ≡ Known op → Decodes op w

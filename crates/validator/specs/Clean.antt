@@ -2,14 +2,14 @@
 use Rattle.std.specs.Prelude.{◌≡◌, ℕ, ◌+◌, ◌/◌, T, List, [], ◌∷◌, pos, ◌-ℤ◌}
 use Rattle.chunk.specs.Roles.{is_executable, role_at}
 use Rattle.chunk.specs.Table.{Proto}
-use Rattle.verdict.specs.Operands.{upvalue_b, flag_a, child_bx}
+use Rattle.verdict.specs.Operands.{upvalue_b, flag_a, flag_limit, child_bx}
 use Rattle.verdict.specs.Rules.{Below, Lands, registers_of, constants_of}
 use Rattle.validator.specs.declared.prototype.Prototype.{Prototype}
 
--- the limits of operands, by their places: of a field that names nothing, of a register, of an RK operand, of an upvalue (two places each, the second
+-- the limits of operands, by their slots: of a field that names nothing, of a register, of an RK operand, of an upvalue (two slots each, the second
 -- for values that have the bit of a constant), of a flag, of a child
 unfoldable pub limits_of : Prototype → List ℕ
-limits_of q = 262144 ∷ 262144 ∷ q.stack ∷ 0 ∷ q.stack ∷ q.constants ∷ q.upvalues ∷ 0 ∷ 2 ∷ q.children ∷ []
+limits_of q = 262144 ∷ 262144 ∷ q.stack ∷ 0 ∷ q.stack ∷ q.constants ∷ q.upvalues ∷ 0 ∷ flag_limit ∷ q.children ∷ []
 
 -- what each opcode names and where it goes, as the code's table has it
 unfoldable pub shapes : List ℕ
@@ -22,7 +22,7 @@ shapes =
 pub record OperandsBelow (q : Prototype) (w : ℕ) : Type 0 where
   pub constant : Below q.constants (constants_of w)
   pub upvalue : Below q.upvalues (upvalue_b w)
-  pub flag : Below 2 (flag_a w)
+  pub flag : Below flag_limit (flag_a w)
   pub register : Below q.stack (registers_of w)
   pub child : Below q.children (child_bx w)
 

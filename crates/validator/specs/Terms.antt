@@ -7,10 +7,10 @@ use Rattle.opcodes.specs.declared.Opcode51.{Opcode51}
 use Rattle.opcodes.specs.declared.OpcodeField.TheVariants.{Known}
 use Rattle.opcodes.specs.declared.RawInstruction51.{RawInstruction51}
 use Rattle.chunk.specs.Table.{Proto, row_bytes, row_at, rows, children}
-use Rattle.chunk.specs.Roles.{Role, Instruction, ClosureBinding, SetlistExtra, role_at}
+use Rattle.chunk.specs.Roles.{role_at, role_in}
 use Rattle.chunk.specs.Refusals.{bad_depth, max_rows}
 use Rattle.chunk.specs.Calls.{Answer, refused, accepted}
-use Rattle.roles.specs.Terms.{refused_of, role_in}
+use Rattle.roles.specs.Terms.{refused_of}
 use Rattle.verdict.specs.Diagnostics.{Diagnostic, diagnostic}
 use Rattle.verdict.specs.Walk.{Verdict, ValidForParser, Incomplete, Invalid, max_diagnostics, verdict_of}
 use Rattle.verdict.specs.Image.{Image}
@@ -34,15 +34,15 @@ abbrev pub image_of : List ℕ → List ℕ → ℕ → ℕ → Image
 image_of table words warnings errors = record { table = table; words = words; warnings = warnings; errors = errors }
 
 -- a verdict
-unfoldable pub verdict_in : VerdictCode → Verdict
-verdict_in code.ValidForParser = ValidForParser
-verdict_in code.Incomplete = Incomplete
-verdict_in code.Invalid = Invalid
+unfoldable pub verdict_of_case : VerdictCode → Verdict
+verdict_of_case code.ValidForParser = ValidForParser
+verdict_of_case code.Incomplete = Incomplete
+verdict_of_case code.Invalid = Invalid
 
 -- the call's answer
 unfoldable pub answer_of : Validation → Answer Checked
 answer_of (validation.Refused r) = refused (refused_of r)
-answer_of (validation.Checked v n) = accepted (record { verdict = verdict_in v; count = n })
+answer_of (validation.Checked v n) = accepted (record { verdict = verdict_of_case v; count = n })
 
 -- what a walk that has ended says
 unfoldable pub concluded : ℕ → ℕ → WalkState → Checked
@@ -134,12 +134,6 @@ unfoldable pub names_constant : OperandField → Bool
 names_constant f = f.rk && is_constant f.value
 
 -- ---- truncated owners
-
--- the owner of a word at pc that has this role, or that pc where it is executable
-unfoldable pub last_owner : ℕ → Role → ℕ
-last_owner pc Instruction = pc
-last_owner pc (ClosureBinding owner index) = owner
-last_owner pc (SetlistExtra owner) = owner
 
 -- codes 1 and 2
 unfoldable pub fault_diagnostics : Lua51RoleFault → List Diagnostic

@@ -9,7 +9,7 @@ ghost use Rattle.verdict.specs.Check.{Checked, check_answer, checked, diagnostic
 ghost use Rattle.verdict.specs.Image.{diagnostics as found};
 ghost use Rattle.verdict.specs.Statements.{Guarantee};
 ghost use Rattle.verdict.specs.Walk.{max_diagnostics, diagnostic_bytes, diagnostic_fields, verdict_of};
-ghost use Rattle.validator.specs.Terms.{answer_of, concluded, image_of, verdict_in};
+ghost use Rattle.validator.specs.Terms.{answer_of, concluded, image_of, verdict_of_case};
 ghost use Rattle.validator.specs.Steps.{Filled, Ready, Walked, step_row, walk_to};
 
 use crate::proto::validate_proto;
@@ -213,9 +213,9 @@ fn limit_reached(walk: WalkState, warnings: u32, errors: u32) -> bool
 }
 
 // By whether there are errors and whether the limit was reached.
-#[tactic(auto, unfolding(crate::specs::Terms::verdict_in, verdict::specs::Walk::verdict_of))]
+#[tactic(auto, unfolding(crate::specs::Terms::verdict_of_case, verdict::specs::Walk::verdict_of))]
 fn verdict_of(errors: bool, limit: bool) -> Verdict
-    ensures { verdict_in result ≡ verdict_of errors limit }
+    ensures { verdict_of_case result ≡ verdict_of errors limit }
 {
     if errors {
         return Verdict::Invalid;

@@ -26,8 +26,8 @@ const LAST_OPCODE: u8 = 37;
 const NO_LIMIT: u32 = 262144;
 
 // What each opcode names and where it goes, four bits each from the lowest on.
-// The limits of A, Bx, B and C, as places in the list of limits: 0 names nothing, 2 a register, 4 an RK operand, 6 an upvalue, 8 a flag, 9 a child.
-// A B or C of 256 or more has the next place: 5 is the number of constants, which a Bx that names a constant has itself, 3 and 7 are 0.
+// The limits of A, Bx, B and C, as slots in the list of limits: 0 names nothing, 2 a register, 4 an RK operand, 6 an upvalue, 8 a flag, 9 a child.
+// A B or C of 256 or more has the next slot: 5 is the number of constants, which a Bx that names a constant has itself, 3 and 7 are 0.
 // The spans that B and C end: 2 * n + 1 ends at register A + n - 2 + the field, 2 * n at A + n - 2; 0 is none.
 // Where it goes: 0 to the next word, 1 to its target, 2 past companions that it may own, 4 over the next word; half of 2 and 4 is how far.
 // So of CALL, 0x13_0002, A is a register, B ends a span at A + 1 - 2 + B, and C one at A + 0 - 2 + C.
@@ -162,20 +162,20 @@ fn operands_below(proto: Prototype, limits: &[u32], shape: u32, w: RawInstructio
     span_below(proto.stack, shape / 0x10_0000 % 16, w.a, w.c)
 }
 
-// Whether a value is below the limit in this place.
-fn is_below(limits: &[u32], place: u32, value: u32) -> bool
-    requires { place < length limits.now }
-    ensures { result ≡ nat_lt value (slice_index limits.now place) }
+// Whether a value is below the limit in this slot.
+fn is_below(limits: &[u32], slot: u32, value: u32) -> bool
+    requires { slot < length limits.now }
+    ensures { result ≡ nat_lt value (slice_index limits.now slot) }
 {
-    value < limits[place as usize]
+    value < limits[slot as usize]
 }
 
-// B or C: a value that has the bit of a constant has the next place.
-fn field_below(limits: &[u32], place: u32, value: u16) -> bool
-    requires { (place < 16) × (place + 1 < length limits.now) × (value < 512) }
-    ensures { result ≡ nat_lt (value % 256) (slice_index limits.now (place + value / 256)) }
+// B or C: a value that has the bit of a constant has the next slot.
+fn field_below(limits: &[u32], slot: u32, value: u16) -> bool
+    requires { (slot < 16) × (slot + 1 < length limits.now) × (value < 512) }
+    ensures { result ≡ nat_lt (value % 256) (slice_index limits.now (slot + value / 256)) }
 {
-    is_below(limits, place + (value / 256) as u32, (value % 256) as u32)
+    is_below(limits, slot + (value / 256) as u32, (value % 256) as u32)
 }
 
 // Whether register A + span / 2 - 2, and `count` more where span is odd, is below the stack.

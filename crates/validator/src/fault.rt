@@ -5,22 +5,16 @@ ghost use Rattle.opcodes.specs.Bytes.{u32s};
 ghost use Rattle.opcodes.specs.Lists.{up_from};
 ghost use Rattle.opcodes.specs.Words.{decoded};
 ghost use Rattle.chunk.specs.Refusals.{max_rows, max_word_bytes};
-ghost use Rattle.chunk.specs.Roles.{claims};
-ghost use Rattle.chunk.specs.Table.{row_bytes};
-ghost use Rattle.roles.specs.Terms.{proto_in, role_in};
+ghost use Rattle.chunk.specs.Roles.{claims, role_in, last_owner};
+ghost use Rattle.chunk.specs.Table.{row_bytes, proto_in};
 ghost use Rattle.verdict.specs.Diagnostics.{truncation_at};
-ghost use Rattle.validator.specs.Terms.{Describes, fault_diagnostics, last_owner, prototype_of};
+ghost use Rattle.validator.specs.Terms.{Describes, fault_diagnostics, prototype_of};
 
 use crate::prototype::{Prototype, field};
-use opcodes::RawInstruction51;
 use opcodes::bytes::read_u32;
+use opcodes::{Opcode51, OpcodeField, RawInstruction51};
 use roles::role::{Lua51PhysicalRole, role_at};
 use roles::table::{Child, UPVALUES, find_child};
-
-// The opcodes that own words, by their numbers.
-const SETLIST: u8 = 34;
-
-const CLOSURE: u8 = 36;
 
 // A truncated CLOSURE, with its pc and its child's upvalues; a truncated SETLIST, with its pc.
 #[derive(Clone, Copy)]
@@ -47,15 +41,14 @@ pub fn find_fault(protos: &[u8], proto: Prototype, code: &[u8], roles: &[u8]) ->
     if (owner as u64) + (owned as u64) < n as u64 {
         return Lua51RoleFault::None;
     }
-    if w.opcode_num == CLOSURE {
-        Lua51RoleFault::TruncatedClosure(owner, owned)
-    } else {
-        Lua51RoleFault::TruncatedSetlist(owner)
+    match w.opcode {
+        OpcodeField::Known(Opcode51::Closure) => Lua51RoleFault::TruncatedClosure(owner, owned),
+        _ => Lua51RoleFault::TruncatedSetlist(owner),
     }
 }
 
 // The owner of the word at pc, or that pc where it is executable.
-#[tactic(auto, unfolding(crate::specs::Terms::last_owner))]
+#[tactic(auto, unfolding(chunk::specs::Roles::last_owner))]
 fn last_owner(roles: &[u8], pc: u32) -> u32
     ensures { result ≡ last_owner pc (role_in roles.now pc) }
 {
@@ -72,15 +65,11 @@ fn owned_words(protos: &[u8], proto: Prototype, w: RawInstruction51) -> u32
     requires prototype_and_word { (proto ≡ prototype_of protos.now proto.row) × (w ≡ decoded w.raw) }
     ensures { (pc : ℕ) (words : List ℕ) → result ≡ length (claims (proto_in protos.now proto.row words) pc w.raw) }
 {
-    if w.opcode_num == CLOSURE {
-        return child_upvalues(protos, proto, w.bx);
+    match w.opcode {
+        OpcodeField::Known(Opcode51::Closure) => child_upvalues(protos, proto, w.bx),
+        OpcodeField::Known(Opcode51::SetList) if w.c == 0 => 1,
+        _ => 0,
     }
-    if w.opcode_num == SETLIST {
-        if w.c == 0 {
-            return 1;
-        }
-    }
-    0
 }
 
 // How many upvalues child k of the prototype has. A missing child has none.

@@ -4,11 +4,10 @@ ghost use mathlib.Core.List.{foldl};
 ghost use Rattle.opcodes.specs.Bytes.{u32s};
 ghost use Rattle.opcodes.specs.Lists.{up_from};
 ghost use Rattle.chunk.specs.Refusals.{max_rows, max_word_bytes};
-ghost use Rattle.chunk.specs.Table.{Proto, row_at, row_bytes};
-ghost use Rattle.roles.specs.Terms.{proto_in};
+ghost use Rattle.chunk.specs.Table.{Proto, row_at, row_bytes, proto_in};
 ghost use Rattle.verdict.specs.Diagnostics.{diagnostics_at, proto_steps, stack_diagnostics, tested_step};
 ghost use Rattle.validator.specs.Terms.{ChildCounts, Describes, Limits, fault_diagnostics, prototype_of};
-ghost use Rattle.validator.specs.Steps.{Ready, advance, emit_all, goes_on, own_steps, step_row, walk_to};
+ghost use Rattle.validator.specs.Steps.{Ready, take_step, emit_all, goes_on, own_steps, step_row, walk_to};
 
 use crate::clean::next_suspect;
 use crate::codes::{L51_CLOSURE_001, L51_SETLIST_001, L51_STACK_001};
@@ -135,7 +134,7 @@ fn validate_own(
     requires short { (length code.now ≤ max_word_bytes) × (length roles.now ≤ 2 * max_word_bytes) }
     requires prototype { proto ≡ prototype_of protos.now proto.row }
     requires describes { Describes (proto_in protos.now proto.row (u32s code.now)) proto code.now roles.now }
-    ensures { (result, out.new) ≡ foldl (advance proto.row) (walk, out.old) (proto_steps (proto_in protos.now proto.row (u32s code.now))) }
+    ensures { (result, out.new) ≡ foldl (take_step proto.row) (walk, out.old) (proto_steps (proto_in protos.now proto.row (u32s code.now))) }
 {
     let walk = walk.tested();
     if walk.limit {
@@ -156,7 +155,7 @@ fn validate_fault(
     proto: Prototype,
     fault: Lua51RoleFault,
 ) -> WalkState
-    ensures { (result, out.new) ≡ foldl (advance proto.row) (walk, out.old) (map (λ d. tested_step (d ∷ [])) (fault_diagnostics fault)) }
+    ensures { (result, out.new) ≡ foldl (take_step proto.row) (walk, out.old) (map (λ d. tested_step (d ∷ [])) (fault_diagnostics fault)) }
 {
     match fault {
         Lua51RoleFault::None => walk,
@@ -194,7 +193,7 @@ fn validate_words(
     roles: &[u8],
 ) -> WalkState
     requires { (length code.now ≤ max_word_bytes) × (length roles.now ≤ 2 * max_word_bytes) }
-    ensures { (p : Proto) → Describes p proto code.now roles.now → (result, out.new) ≡ foldl (advance proto.row) (walk, out.old) (map (λ pc. tested_step (diagnostics_at p pc)) (up_from 0 (length code.now / 4))) }
+    ensures { (p : Proto) → Describes p proto code.now roles.now → (result, out.new) ≡ foldl (take_step proto.row) (walk, out.old) (map (λ pc. tested_step (diagnostics_at p pc)) (up_from 0 (length code.now / 4))) }
 {
     let n = code.len() / 4;
     let mut walk = walk;

@@ -3,7 +3,7 @@ ghost use Rattle.std.specs.Prelude.{◌≡◌, ◌<◌, ◌&&◌, [], ◌∷◌,
 ghost use Rattle.opcodes.specs.Lists.{only};
 ghost use Rattle.chunk.specs.Refusals.{max_rows};
 ghost use Rattle.verdict.specs.Diagnostics.{diagnostic, not_below, tested_step};
-ghost use Rattle.validator.specs.Steps.{advance, emit_all, emitted, emitted_if, moved_to, tested_of};
+ghost use Rattle.validator.specs.Steps.{take_step, emit_all, emitted, emitted_if, moved_to, tested_of};
 
 use crate::codes::L51_STACK_001;
 use opcodes::bytes::write_record;
@@ -64,7 +64,7 @@ impl WalkState {
 
     // Adds the diagnostic of a word after a test.
     pub fn report(self, out: &mut [u8], row: u32, pc: u32, code: u32, value: u32) -> WalkState
-        ensures { (result, out.new) ≡ advance row (self, out.old) (tested_step (diagnostic pc code (pos value) ∷ [])) }
+        ensures { (result, out.new) ≡ take_step row (self, out.old) (tested_step (diagnostic pc code (pos value) ∷ [])) }
     {
         let walk = self.tested();
         if walk.limit {

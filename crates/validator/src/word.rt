@@ -1,14 +1,13 @@
 // The diagnostics of one executable word, in the order of document 01's table.
-ghost use Rattle.std.specs.Prelude.{◌≡◌, ℕ, ◌+◌, ◌*◌, ◌/◌, ◌<◌, ◌≤◌, not, ◌&&◌, T, [], ◌∷◌, length, pos, ◌-ℤ◌, if◌then◌else◌, nat_lt};
+ghost use Rattle.std.specs.Prelude.{◌≡◌, ℕ, ◌+◌, ◌*◌, ◌/◌, ◌<◌, ◌≤◌, not, ◌&&◌, T, [], ◌∷◌, length, pos, ◌-ℤ◌};
 ghost use mathlib.Core.List.{flat_map, flatten};
-ghost use Rattle.opcodes.specs.Lists.{elem, only, up_from};
-ghost use Rattle.opcodes.specs.Words.{B, C, CLOSURE, Field, GETUPVAL as opcodeGETUPVAL, MOVE as opcodeMOVE, VARARG, is};
+ghost use Rattle.opcodes.specs.Lists.{only, up_from};
+ghost use Rattle.opcodes.specs.Words.{B, C, CLOSURE, Field, is};
 ghost use Rattle.chunk.specs.Refusals.{max_word_bytes};
-ghost use Rattle.chunk.specs.Roles.{Executable, binding_words, is_executable, word_at};
+ghost use Rattle.chunk.specs.Roles.{Executable, binding_words, is_executable, word_at, role_in};
 ghost use Rattle.chunk.specs.Table.{Proto};
-ghost use Rattle.roles.specs.Terms.{role_in};
 ghost use Rattle.verdict.specs.Diagnostics.{binding_diagnostics, diagnostic, jump_diagnostics, not_below, opcode_value, operand_diagnostics, skip_diagnostics, target_diagnostics, word_diagnostics};
-ghost use Rattle.verdict.specs.Operands.{captured_register, captured_upvalue, constant_bx, constant_in, flag_a, is_binding, is_skip, register_a, register_in, skip_target, span_ends, upvalue_b};
+ghost use Rattle.verdict.specs.Operands.{captured_register, captured_upvalue, constant_bx, constant_in, flag_a, flag_limit, is_binding, is_skip, register_a, register_in, skip_target, span_ends, upvalue_b};
 ghost use Rattle.validator.specs.Terms.{Decodes, Describes, Limits, Stands, ends, operand_field};
 ghost use Rattle.validator.specs.Steps.{emit_all};
 
@@ -32,13 +31,6 @@ const NONE: u32 = 0xffff_ffff;
 
 // What Bx has more than sBx.
 const OFFSET_SBX: u32 = 131071;
-
-// The opcodes of binding words and the last that is known, by their numbers.
-const MOVE: u8 = 0;
-
-const GETUPVAL: u8 = 4;
-
-const LAST_OPCODE: u8 = 37;
 
 // The word at pc: of an unknown opcode, nothing but that.
 pub fn validate_word(
@@ -195,7 +187,7 @@ fn validate_indices(
     w: RawInstruction51,
 ) -> WalkState
     requires { Decodes op w }
-    ensures { (result, out.new) ≡ emit_all proto.row (flatten (not_below pc 7 proto.constants (constant_bx w.raw) ∷ not_below pc 8 proto.upvalues (upvalue_b w.raw) ∷ not_below pc 9 2 (flag_a w.raw) ∷ [])) (walk, out.old) }
+    ensures { (result, out.new) ≡ emit_all proto.row (flatten (not_below pc 7 proto.constants (constant_bx w.raw) ∷ not_below pc 8 proto.upvalues (upvalue_b w.raw) ∷ not_below pc 9 flag_limit (flag_a w.raw) ∷ [])) (walk, out.old) }
 {
     let row = proto.row;
     let walk = walk.check(
@@ -363,50 +355,26 @@ fn validate_binding(
 {
     let w = RawInstruction51::decode(word);
     let row = proto.row;
-    let walk = walk.emit_if(
-        out,
-        row,
-        pc,
-        L51_CLOSURE_002,
-        !is_binding(w.opcode_num),
-        opcode_value(w.opcode_num),
-    );
-    let walk = walk.check(
-        out,
-        row,
-        pc,
-        L51_REG_002,
-        w.opcode_num == MOVE,
-        w.b as u32,
-        proto.stack,
-    );
-    walk.check(
-        out,
-        row,
-        pc,
-        L51_UPVAL_001,
-        w.opcode_num == GETUPVAL,
-        w.b as u32,
-        proto.upvalues,
-    )
-}
-
-// Whether a word of this opcode captures something.
-fn is_binding(opcode: u8) -> bool
-    ensures { result ≡ elem opcode (opcodeMOVE ∷ opcodeGETUPVAL ∷ []) }
-{
-    if opcode == MOVE {
-        return true;
+    match w.opcode {
+        OpcodeField::Known(Opcode51::Move) => walk.check(
+            out,
+            row,
+            pc,
+            L51_REG_002,
+            true,
+            w.b as u32,
+            proto.stack,
+        ),
+        OpcodeField::Known(Opcode51::GetUpval) => walk.check(
+            out,
+            row,
+            pc,
+            L51_UPVAL_001,
+            true,
+            w.b as u32,
+            proto.upvalues,
+        ),
+        OpcodeField::Known(_) => walk.emit(out, row, pc, L51_CLOSURE_002, w.opcode_num as u32),
+        OpcodeField::Unknown(_) => walk.emit(out, row, pc, L51_CLOSURE_002, NONE),
     }
-    opcode == GETUPVAL
-}
-
-// The opcode, or the bits of -1 where it is unknown.
-fn opcode_value(opcode: u8) -> u32
-    ensures { result ≡ (if nat_lt VARARG opcode then 0xffff_ffff else opcode) }
-{
-    if LAST_OPCODE < opcode {
-        return NONE;
-    }
-    opcode as u32
 }

@@ -1,7 +1,7 @@
 -- One diagnostic more is printed in each turn, and there is room for it.
 use Rattle.std.proofs.Common.{arith}
 use mathlib.Core.List.{flat_map}
-use Rattle.check_listing.specs.Terms.{diagnostics_in}
+use Rattle.verdict.specs.Records.{diagnostics_in}
 use Rattle.check_listing.proofs.PrintLaws.{prints_none, diagnostic_end, diagnostics_end, prints_diagnostics_next}
 use Rattle.check_listing.proofs.report.print_diagnostics.Goals as goal
 

@@ -2,7 +2,8 @@
 use Rattle.std.proofs.Common.{◌-◌, ◌≤◌}
 use mathlib.Core.List.{flat_map}
 use Rattle.listing.specs.Packcheck.{diagnostic_text}
-use Rattle.check_listing.specs.Terms.{Prints, diagnostics_in}
+use Rattle.check_listing.specs.Terms.{Prints}
+use Rattle.verdict.specs.Records.{diagnostics_in}
 use Rattle.check_listing.proofs.report.print_diagnostics.Given as goal
 
 abbrev pub invariant-loop-i : goal.invariant-loop-i

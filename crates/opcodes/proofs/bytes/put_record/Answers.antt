@@ -1,4 +1,4 @@
-use Rattle.std.proofs.Common.{◌*◌, length, sym, arith}
+use Rattle.std.proofs.Common.{sym, arith}
 use Rattle.opcodes.proofs.ByteLaws.{record_none, record_next}
 use Rattle.opcodes.proofs.bytes.put_record.Goals as goal
 

@@ -2,7 +2,8 @@
 use Rattle.std.proofs.Common.{ap, ◌∙◌}
 use Rattle.chunk.specs.Bindings.{writes}
 use Rattle.roles.specs.BindingSteps.{bound_in}
-use Rattle.roles.proofs.RoleFillLaws.{part_proto, part_written}
+use Rattle.roles.proofs.RoleFillLaws.{part_written}
+use Rattle.chunk.proofs.RowPartLaws.{part_proto}
 use Rattle.roles.proofs.calls.fill_row.Goals as goal
 
 pub returns-clause-roles_after : goal.returns-clause-roles_after

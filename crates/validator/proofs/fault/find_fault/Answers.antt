@@ -1,7 +1,11 @@
 -- Only the owner of the last word can be truncated.
+use Rattle.std.proofs.Common.{◌≡◌, ◌≢◌, arith, rules, sym, ◌∙◌}
 use mathlib.Core.List.{flat_map}
+use Rattle.opcodes.specs.Words.{CLOSURE, number_of}
+use Rattle.opcodes.proofs.SplitLaws.{known_has, unknown_has}
 use Rattle.validator.specs.Terms.{fault_diagnostics}
-use Rattle.validator.proofs.FaultLaws.{split_again, no_fault, closure_fault, setlist_fault}
+use Rattle.validator.proofs.FaultLaws.{no_fault, closure_fault, setlist_fault}
+use Rattle.opcodes.proofs.SplitLaws.{split_again}
 use Rattle.validator.proofs.fault.find_fault.Goals as goal
 
 pub returns-then-n-eq0 : goal.returns-then-n-eq0
@@ -15,12 +19,22 @@ pub returns-then-owner-owned : goal.returns-then-owner-owned
 returns-then-owner-owned c =
     no_fault _ _ c.requires.prototype _ _ c.requires.describes c.if-n-eq0.false _ _ _ _ c.last_owner-owner.ensures c.read_u32.ensures c.decode-w.ensures c.owned_words-owned.ensures c.if-owner-owned.true
 
-pub returns-then-w-eq-CLOSURE : goal.returns-then-w-eq-CLOSURE
-returns-then-w-eq-CLOSURE c =
+pub returns-in-Known-Closure : goal.returns-in-Known-Closure
+unfolding number_of
+returns-in-Known-Closure c =
+    let closure : number_of c.in-Known-Closure.field-0 ≡ CLOSURE = search rules in
     closure_fault _ _ c.requires.prototype _ _ c.requires.describes c.if-n-eq0.false _ _ _ _ c.last_owner-owner.ensures c.read_u32.ensures c.decode-w.ensures c.owned_words-owned.ensures c.if-owner-owned.false
-    c.if-w-eq-CLOSURE.true
+    (known_has _ _ c.decode-w.ensures _ c.in-Known-Closure.is ∙ closure)
 
-pub returns-else-w-eq-CLOSURE : goal.returns-else-w-eq-CLOSURE
-returns-else-w-eq-CLOSURE c =
+pub returns-in_default : goal.returns-in_default
+unfolding number_of
+returns-in_default c =
+    let other : number_of c.in_default.field-0 ≢ CLOSURE = search rules in
     setlist_fault _ _ c.requires.prototype _ _ c.requires.describes c.if-n-eq0.false _ _ _ _ c.last_owner-owner.ensures c.read_u32.ensures c.decode-w.ensures c.owned_words-owned.ensures c.if-owner-owned.false
-    c.if-w-eq-CLOSURE.false
+    (λ e. other (sym (known_has _ _ c.decode-w.ensures _ c.in_default.is) ∙ e))
+
+pub returns-in_default-2 : goal.returns-in_default-2
+returns-in_default-2 c =
+    let above = unknown_has _ _ c.decode-w.ensures _ c.in_default.is in
+    setlist_fault _ _ c.requires.prototype _ _ c.requires.describes c.if-n-eq0.false _ _ _ _ c.last_owner-owner.ensures c.read_u32.ensures c.decode-w.ensures c.owned_words-owned.ensures c.if-owner-owned.false
+    (λ e. omega arith)

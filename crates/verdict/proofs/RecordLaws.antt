@@ -14,7 +14,7 @@ use Rattle.opcodes.proofs.ByteLaws.{u32_at_record}
 use Rattle.opcodes.proofs.ListLaws.{get_d_tabulate, length_tabulate, get_d_flat_map, length_flat_map}
 use Rattle.verdict.specs.Walk.{RowDiagnostic, diagnostic_fields, diagnostic_bytes}
 use Rattle.verdict.proofs.RangeLaws.{Signed32, InRange, signed_bits_below, fields_signed}
-use Rattle.check_listing.specs.Terms.{signed, diagnostic_in, diagnostics_in}
+use Rattle.verdict.specs.Records.{signed, diagnostic_in, diagnostics_in}
 
 -- the number that the bits of an i32 are
 pub signed_back : (z : ℤ) → Signed32 z → signed (i32_bits z) ≡ z

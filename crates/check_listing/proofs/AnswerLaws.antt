@@ -16,10 +16,9 @@ use Rattle.verdict.specs.Check.{Checked, check_answer, check_refusal, checked, d
 use Rattle.verdict.specs.Image.{Image, diagnostics}
 use Rattle.verdict.specs.Walk.{RowDiagnostic, diagnostic_bytes, diagnostic_fields}
 use Rattle.verdict.proofs.RangeLaws.{check_held}
-use Rattle.validator.specs.Terms.{answer_of, verdict_in}
+use Rattle.std.specs.Prelude.{Result, Ok, Err}
+use Rattle.validator.specs.Terms.{answer_of, checked_in}
 use Rattle.validator.specs.declared.calls.Validation.{Validation}
-use Rattle.validator.specs.declared.calls.Validation.TheVariants as validation
-use Rattle.validator.specs.declared.calls.Verdict.{Verdict as VerdictCode}
 use Rattle.listing.specs.Listing.{done}
 use Rattle.listing.specs.Packcheck.{answer_text, diagnostic_room, max_diagnostics, output_text, refusal_text, result_text, role_room}
 use Rattle.check_listing.specs.Terms.{diagnostics_in}
@@ -51,23 +50,24 @@ module _ (i : Image) (c : Checked) (e : check_answer i role_room diagnostic_room
       ap₂ diagnostics_in whole count_is ∙ diagnostics_read old (diagnostics i) (check_held i role_room diagnostic_room c e) (omega (arith, long, all_fit))
 
 -- what the call answers, and what is printed of it
-module _ (i : Image) (r : Validation) (answered : answer_of r ≡ check_answer i role_room diagnostic_room) where
+module _ (i : Image) (r : Result Validation Refusal) (answered : answer_of r ≡ check_answer i role_room diagnostic_room) where
   -- a refusal
-  pub refusal_output : (x : Refusal) → r ≡ validation.Refused x → refusal_text (refused_of x) ≡ output_text (done i)
+  pub refusal_output : (x : Refusal) → r ≡ Err x → refusal_text (refused_of x) ≡ output_text (done i)
   unfolding answer_of output_text answer_text
   refusal_output x e = ap (answer_text (diagnostics i)) (ap answer_of (sym e) ∙ answered)
 
   -- a verdict
-  module _ (v : VerdictCode) (n : ℕ) (e : r ≡ validation.Checked v n) where
-    accepted_is : check_answer i role_room diagnostic_room ≡ accepted (record { verdict = verdict_in v; count = n })
+  module _ (v : Validation) (e : r ≡ Ok v) where
+    accepted_is : check_answer i role_room diagnostic_room ≡ accepted (checked_in v)
     unfolding answer_of
     accepted_is = sym answered ∙ ap answer_of e
 
-    pub result_count : n ≤ max_diagnostics
-    result_count = (accepted_count i (record { verdict = verdict_in v; count = n }) accepted_is).1
+    pub result_count : v.count ≤ max_diagnostics
+    unfolding checked_in
+    result_count = (accepted_count i (checked_in v) accepted_is).1
 
-    pub result_output : (old new : List ℕ) → length old ≡ diagnostic_room → new ≡ diagnostics_after i role_room old → result_text (diagnostics_in new n) (record { verdict = verdict_in v; count = n }) ≡ output_text (done i)
-    unfolding output_text answer_text
+    pub result_output : (old new : List ℕ) → length old ≡ diagnostic_room → new ≡ diagnostics_after i role_room old → result_text (diagnostics_in new v.count) (checked_in v) ≡ output_text (done i)
+    unfolding output_text answer_text checked_in
     result_output old new long after =
-        ap (λ (ds : List RowDiagnostic). result_text ds (record { verdict = verdict_in v; count = n })) (diagnostics_are i (record { verdict = verdict_in v; count = n }) accepted_is old new long after)
+        ap (λ (ds : List RowDiagnostic). result_text ds (checked_in v)) (diagnostics_are i (checked_in v) accepted_is old new long after)
         ∙ ap (answer_text (diagnostics i)) (sym accepted_is)

@@ -1,4 +1,3 @@
-pub mod ScanLaws
 pub mod NumberLaws
 pub mod DecimalsLaws
 pub mod LinesLaws

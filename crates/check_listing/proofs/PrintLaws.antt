@@ -8,62 +8,54 @@ use mathlib.Core.Bool.{Bool, cond}
 use mathlib.Core.List.{List, [], ◌∷◌, ◌++◌, map, flat_map, flatten, append_assoc, append-nil}
 use borrow.Author.Tests.{lt-ltb, le-ltb}
 use lib.Dec.{T, ltb, leb, leb→le}
-use lib.ListN.{length, get_or, take, drop, set, length-append, get_or-eq_default}
+use denote.Ref.{Bor}
+use lib.ListN.{length, get_or, take, drop, length-append, get_or-eq_default, get_or-map}
+use lib.Seq.{drop-drop}
+use borrow.Rule.Slice.PartMut.{put_mid}
 use lib.IntN.{ℤ, pos, negsuc}
-use lib.Seq.{take-suc}
+use Rattle.std.proofs.lemmas.List.{get_or_default}
 use Rattle.opcodes.specs.Bytes.{overwrite, u32_at}
 use Rattle.opcodes.specs.Lists.{tabulate, every}
-use Rattle.opcodes.proofs.ByteLaws.{length_overwrite, overwrite_none, overwrite_next, sets_overwrite}
-use Rattle.opcodes.proofs.ListLaws.{get_d_tabulate, length_tabulate, tabulate_next, flat_map_append}
+use Rattle.opcodes.proofs.ByteLaws.{length_overwrite, overwrite_fits, overwrite_none, overwrite_next}
+use Rattle.opcodes.proofs.ListLaws.{length_tabulate, tabulate_next, flat_map_append}
 use Rattle.opcodes.proofs.TestLaws.{t_and, by_cond}
 use Rattle.chunk.specs.Refusals.{Refused}
 use Rattle.verdict.specs.Check.{Checked}
 use Rattle.verdict.specs.Walk.{Verdict, ValidForParser, Incomplete, Invalid, RowDiagnostic}
 use Rattle.listing.specs.Text.{newline, space, text, line, digits, decimal, integer}
 use Rattle.listing.specs.Packcheck.{code_names, code_name, verdict_name, refusal_text, diagnostic_text, result_text}
+use Rattle.check_listing.specs.declared.printer.Printer.{Printer}
 use Rattle.check_listing.specs.Terms.{Prints, signed, diagnostic_in, diagnostics_in, longest_diagnostic, longest_answer}
 
 -- ---- one after the other
 
 -- nothing is printed
-pub prints_none : {old : List ℕ} {at : ℕ} → Prints old at [] old at
-prints_none {old} {at} = record { bytes = sym (overwrite_none old at); ends = sym (add-zero at) }
+pub prints_none : (p : Printer) → Prints p [] p
+prints_none p = record { bytes = sym (overwrite_none p.out.now p.end); ends = sym (add-zero p.end); same = refl }
 
--- one byte
-pub prints_byte : (old : List ℕ) (at b : ℕ) → at < length old → Prints old at (b ∷ []) (set old at b) (at + 1)
-prints_byte old at b h = record { bytes = sets_overwrite old at (b ∷ []) (omega arith); ends = refl }
+-- the buffer stays as long as it was
+pub prints_length : {old new : Printer} {t : List ℕ} → Prints old t new → length new.out.now ≡ length old.out.now
+prints_length {old} {new} {t} p = ap (λ (l : List ℕ). length l) p.bytes ∙ length_overwrite old.out.now old.end t
 
 -- a text and then another
-pub prints_next : {old mid new s t : List ℕ} {at i end : ℕ} → end ≤ length old → Prints old at s mid i → Prints mid i t new end → Prints old at (s ++ t) new end
-prints_next {old} {s = s} {t = t} {at = at} h p q =
+pub prints_next : {old mid new : Printer} {s t : List ℕ} → new.end ≤ length old.out.now → Prints old s mid → Prints mid t new → Prints old (s ++ t) new
+prints_next {old} {s = s} {t = t} h p q =
     record {
-      bytes = q.bytes ∙ ap₂ (λ (l : List ℕ) (n : ℕ). overwrite l n t) p.bytes p.ends ∙ overwrite_next old at s t (omega (arith, p.ends, q.ends));
+      bytes = q.bytes ∙ ap₂ (λ (l : List ℕ) (n : ℕ). overwrite l n t) p.bytes p.ends ∙ overwrite_next old.out.now old.end s t (omega (arith, p.ends, q.ends));
       ends = omega (arith, p.ends, q.ends, length-append s t);
+      same = q.same ∙ p.same;
     }
 
 -- the same text by another expression
-pub prints_as : {old new s t : List ℕ} {at end : ℕ} → s ≡ t → Prints old at s new end → Prints old at t new end
-prints_as {old} {new} {at = at} {end = end} e p = subst (λ (l : List ℕ). Prints old at l new end) e p
+pub prints_as : {old new : Printer} {s t : List ℕ} → s ≡ t → Prints old s new → Prints old t new
+prints_as {old} {new} e p = subst (λ (l : List ℕ). Prints old l new) e p
 
--- a text of which the first i bytes are printed, and byte i
-pub prints_turn : {old mid : List ℕ} {at : ℕ} (text : List ℕ) (i : ℕ) → i < length text → at + length text ≤ length old → length mid ≡ length old
-    → Prints old at (take i text) mid (at + i) → Prints old at (take (i + 1) text) (set mid (at + i) (get_or text i 0)) (at + (i + 1))
-prints_turn {old} {mid} {at} text i h room same p =
-    prints_as (sym (ap (λ (n : ℕ). take n text) (add-one i) ∙ take-suc text i 0 h))
-    (prints_next (omega arith) p (subst (λ (n : ℕ). Prints mid (at + i) (get_or text i 0 ∷ []) (set mid (at + i) (get_or text i 0)) n) (omega arith) (prints_byte mid (at + i) (get_or text i 0) (omega arith))))
+-- a part of a buffer that a text was copied to
+pub copied : (old text part : List ℕ) (at size : ℕ) → part ≡ text → size ≡ length text → at + length text ≤ length old → put_mid at size old part ≡ overwrite old at text
+copied old text part at size e k h =
+    rw (e, k) (ap (λ (l : List ℕ). take at old ++ (text ++ l)) (drop-drop (length text) at old) ∙ sym (append_assoc (take at old) text (drop (at + length text) old)) ∙ sym (overwrite_fits old at text h))
 
 -- ---- digits
-
--- a number of one digit, and one of more
-digits_one : (most n : ℕ) → 0 < most → n < 10 → digits most n ≡ (48 + n % 10) ∷ []
-unfolding digits
-digits_one zero n h l = absurd (omega arith)
-digits_one (suc most) n h l = rw (lt-ltb n 10 l)
-
-digits_more : (most n : ℕ) → 0 < most → 10 ≤ n → digits most n ≡ digits (most - 1) (n / 10) ++ ((48 + n % 10) ∷ [])
-unfolding digits
-digits_more zero n h l = absurd (omega arith)
-digits_more (suc most) n h l = let e : suc most - 1 ≡ most = omega arith in rw (le-ltb n 10 l, e)
 
 length_digits : (most n : ℕ) → length (digits most n) ≤ most
 unfolding digits
@@ -74,23 +66,27 @@ length_digits (suc most) n =
     omega (arith, length-append front ((48 + n % 10) ∷ []))
 
 -- no digits
-pub prints_no_digits : {old : List ℕ} {at : ℕ} (most n : ℕ) → most ≡ 0 → Prints old at (digits most n) old at
+pub prints_no_digits : (p : Printer) (most n : ℕ) → most ≡ 0 → Prints p (digits most n) p
 unfolding digits
-prints_no_digits most n e = rw e prints_none
+prints_no_digits p most n e = rw e (prints_none p)
 
 -- the digit of a number that has one
-pub prints_digit : {old new : List ℕ} {at end : ℕ} (most n : ℕ) {d : ℕ} → 0 < most → n < 10 → d ≡ 48 + n % 10 → Prints old at (d ∷ []) new end → Prints old at (digits most n) new end
-prints_digit most n h l e p = prints_as (ap (λ (x : ℕ). x ∷ []) e ∙ sym (digits_one most n h l)) p
+pub prints_digit : {old new : Printer} (most n : ℕ) → 0 < most → n < 10 → Prints old ((48 + n % 10) ∷ []) new → Prints old (digits most n) new
+unfolding digits
+prints_digit zero n h l p = absurd (omega arith)
+prints_digit (suc most) n h l p = rw (lt-ltb n 10 l) p
 
 -- the last digit of a number that has more
-pub prints_last : {old mid new : List ℕ} {at i end : ℕ} (most n : ℕ) {d : ℕ} → 0 < most → 10 ≤ n → at + most ≤ length old → d ≡ 48 + n % 10
-    → Prints old at (digits (most - 1) (n / 10)) mid i → Prints mid i (d ∷ []) new end → Prints old at (digits most n) new end
-prints_last most n h l room e p q =
-    prints_as (ap (λ (x : ℕ). digits (most - 1) (n / 10) ++ (x ∷ [])) e ∙ sym (digits_more most n h l))
-    (prints_next (omega (arith, p.ends, q.ends, length_digits (most - 1) (n / 10))) p q)
+pub prints_last : {old mid new : Printer} (most n : ℕ) → 0 < most → 10 ≤ n → old.end + most ≤ length old.out.now
+    → Prints old (digits (most - 1) (n / 10)) mid → Prints mid ((48 + n % 10) ∷ []) new → Prints old (digits most n) new
+unfolding digits
+prints_last zero n h l room p q = absurd (omega arith)
+prints_last (suc most) n h l room p q =
+    let e : suc most - 1 ≡ most = omega arith in
+    rw (le-ltb n 10 l, ← e) (prints_next (omega (arith, p.ends, q.ends, length_digits (suc most - 1) (n / 10))) p q)
 
 -- where digits end
-pub digits_end : {old new : List ℕ} {at end : ℕ} (most n : ℕ) → Prints old at (digits most n) new end → end ≤ at + most
+pub digits_end : {old new : Printer} (most n : ℕ) → Prints old (digits most n) new → new.end ≤ old.end + most
 digits_end most n p = omega (arith, p.ends, length_digits most n)
 
 -- ---- numbers
@@ -105,34 +101,26 @@ length_integer (pos n) = omega (arith, length_decimal n)
 length_integer (negsuc n) = omega (arith, length_decimal (suc n))
 
 -- where a number and a byte end
-pub number_end : {old new : List ℕ} {at end : ℕ} (n b : ℕ) → Prints old at (decimal n ++ (b ∷ [])) new end → end ≤ at + 11
+pub number_end : {old new : Printer} (n b : ℕ) → Prints old (decimal n ++ (b ∷ [])) new → new.end ≤ old.end + 11
 number_end n b p = omega (arith, p.ends, length-append (decimal n) (b ∷ []), length_decimal n)
 
 -- where a signed number and a byte end
-pub signed_end : {old new : List ℕ} {at end : ℕ} (z : ℤ) (b : ℕ) → Prints old at (integer z ++ (b ∷ [])) new end → end ≤ at + 12
+pub signed_end : {old new : Printer} (z : ℤ) (b : ℕ) → Prints old (integer z ++ (b ∷ [])) new → new.end ≤ old.end + 12
 signed_end z b p = omega (arith, p.ends, length-append (integer z) (b ∷ []), length_integer z)
 
 -- the bits of a number that is not negative
-pub prints_positive : {old new : List ℕ} {at end : ℕ} (bits b : ℕ) → bits < 2 ^ 31 → Prints old at (decimal bits ++ (b ∷ [])) new end → Prints old at (integer (signed bits) ++ (b ∷ [])) new end
+pub prints_positive : {old new : Printer} (bits b : ℕ) → bits < 2 ^ 31 → Prints old (decimal bits ++ (b ∷ [])) new → Prints old (integer (signed bits) ++ (b ∷ [])) new
 unfolding signed integer
 prints_positive bits b h p = rw (lt-ltb bits (2 ^ 31) h) p
 
 -- those of a negative one, after its sign
-pub prints_negative : {old mid new : List ℕ} {at i end : ℕ} (bits b : ℕ) → 2 ^ 31 ≤ bits → at + 12 ≤ length old
-    → Prints old at (45 ∷ []) mid i → Prints mid i (decimal (0xffff_ffff - bits + 1) ++ (b ∷ [])) new end → Prints old at (integer (signed bits) ++ (b ∷ [])) new end
+pub prints_negative : {old mid new : Printer} (bits b : ℕ) → 2 ^ 31 ≤ bits → old.end + 12 ≤ length old.out.now
+    → Prints old (45 ∷ []) mid → Prints mid (decimal (0xffff_ffff - bits + 1) ++ (b ∷ [])) new → Prints old (integer (signed bits) ++ (b ∷ [])) new
 unfolding signed integer text
 prints_negative bits b h room p q =
     rw (le-ltb bits (2 ^ 31) h, ← add-one (0xffff_ffff - bits)) (prints_next (omega (arith, p.ends, number_end _ _ q)) p q)
 
 -- ---- the names of the codes
-
--- as the code has them: 16 bytes each
-abbrev pub name_bytes : List ℕ
-name_bytes = flat_map (λ s. take 16 (text s ++ text "      ")) code_names
-
--- their lengths
-abbrev pub name_lengths : List ℕ
-name_lengths = map (λ s. length (text s)) code_names
 
 -- each of a list passes a test, and so does what stands past its end
 every_get_d : {A : Type 0} (f : A → Bool) (xs : List A) (k : ℕ) (d : A) → T (f d) → T (every f xs) → T (f (get_or xs k d))
@@ -140,50 +128,37 @@ every_get_d f [] k d e t = e
 every_get_d f (x ∷ xs) zero d e t = (t_and (f x) (every f xs) t).0
 every_get_d f (x ∷ xs) (suc k) d e t = every_get_d f xs k d e (t_and (f x) (every f xs) t).1
 
--- nor is that of any code
+-- no name is longer
 pub length_name : (code : ℕ) → length (text (code_name code)) ≤ 16
 unfolding code_name code_names text
 length_name code = leb→le _ 16 (every_get_d (λ s. leb (length (text s)) 16) code_names (code - 1) "" tt tt)
 
--- every name stands where the code takes it from
-names_there : tabulate 17 (λ k. take (get_or name_lengths k 0) (drop (16 * k) name_bytes)) ≡ tabulate 17 (λ k. text (get_or code_names k ""))
-unfolding code_names text flat_map
-names_there = refl
+-- what a list of references has at an index, by what they point to
+pub now_at : (xs : List (Bor (List ℕ))) (k : ℕ) (d : Bor (List ℕ)) → (get_or xs k d).now ≡ get_or (map (λ x. x.now) xs) k d.now
+now_at xs k d = sym (get_or-map (λ (x : Bor (List ℕ)). x.now) xs k d)
 
--- so does that of a code
-pub name_there : (code k : ℕ) → k ≡ code - 1 → code ≤ 17 → take (16 * k + get_or name_lengths k 0 - 16 * k) (drop (16 * k) name_bytes) ≡ text (code_name code)
-unfolding code_name
-name_there code k e h =
-    let below : k < 17 = omega arith in
-    let n : 16 * k + get_or name_lengths k 0 - 16 * k ≡ get_or name_lengths k 0 = omega arith in
-    ap (λ (m : ℕ). take m (drop (16 * k) name_bytes)) n
-    ∙ sym (get_d_tabulate (λ k. take (get_or name_lengths k 0) (drop (16 * k) name_bytes)) 17 k [] below)
-    ∙ ap (λ (l : List (List ℕ)). get_or l k []) names_there
-    ∙ get_d_tabulate (λ k. text (get_or code_names k "")) 17 k [] below
-    ∙ ap (λ (m : ℕ). text (get_or code_names m "")) e
+-- a code's name is that at its index
+pub name_at : (code k : ℕ) (d : List ℕ) → k ≡ code - 1 → k < 17 → get_or (map text code_names) k d ≡ text (code_name code)
+unfolding code_name code_names
+name_at code k d e below =
+    get_or_default (map text code_names) k d (text "") below
+    ∙ get_or-map text code_names k ""
+    ∙ ap (λ (n : ℕ). text (get_or code_names n "")) e
 
--- a code above 17 has none
-pub no_name : (code : ℕ) → 17 < code → [] ≡ text (code_name code)
+-- a code past the last has none
+pub no_name : (code k : ℕ) → k ≡ code - 1 → 17 ≤ k → [] ≡ text (code_name code)
 unfolding code_name code_names text
-no_name code h = ap text (sym (get_or-eq_default code_names "" {n = code - 1} (omega arith)))
-
--- where a name ends
-pub name_end : {old new : List ℕ} {at end : ℕ} (code : ℕ) → Prints old at (text (code_name code)) new end → end ≤ at + 16
-name_end code p = omega (arith, p.ends, length_name code)
+no_name code k e past = ap text (sym (get_or-eq_default code_names "" {n = code - 1} (omega arith)))
 
 -- where a name and a byte end
-pub code_end : {old new : List ℕ} {at end : ℕ} (code b : ℕ) → Prints old at (text (code_name code) ++ (b ∷ [])) new end → end ≤ at + 17
+pub code_end : {old new : Printer} (code b : ℕ) → Prints old (text (code_name code) ++ (b ∷ [])) new → new.end ≤ old.end + 17
 code_end code b p = omega (arith, p.ends, length-append (text (code_name code)) (b ∷ []), length_name code)
 
 -- ---- lines
 
--- a text leaves the buffer as long as it was
-prints_length : {old new t : List ℕ} {at end : ℕ} → Prints old at t new end → length new ≡ length old
-prints_length {old} {t = t} {at = at} p = ap (λ (l : List ℕ). length l) p.bytes ∙ length_overwrite old at t
-
 -- an item and a space, and then the rest of the line
-prints_item : {old mid new : List ℕ} {at i end : ℕ} (x : List ℕ) {rest : List ℕ} → end ≤ length old
-    → Prints old at (x ++ (space ∷ [])) mid i → Prints mid i rest new end → Prints old at (x ++ (space ∷ rest)) new end
+prints_item : {old mid new : Printer} (x : List ℕ) {rest : List ℕ} → new.end ≤ length old.out.now
+    → Prints old (x ++ (space ∷ [])) mid → Prints mid rest new → Prints old (x ++ (space ∷ rest)) new
 prints_item x {rest} h p q = prints_as (append_assoc x (space ∷ []) rest) (prints_next h p q)
 
 length_last : (x : List ℕ) → length (line (x ∷ [])) ≡ length x + 1
@@ -197,9 +172,9 @@ length_item x y ys = omega (arith, length-append x (space ∷ line (y ∷ ys)))
 -- ---- refusals
 
 -- a refusal, by its three parts
-pub prints_refusal : {old a b new : List ℕ} {i j end : ℕ} (number figure : ℕ) → 30 ≤ length old
-    → Prints old 0 (text "refused ") a i → Prints a i (decimal number ++ (space ∷ [])) b j → Prints b j (decimal figure ++ (newline ∷ [])) new end
-    → Prints old 0 (refusal_text (record { number = number; figure = figure })) new end
+pub prints_refusal : {old a b new : Printer} (number figure : ℕ) → old.end + 30 ≤ length old.out.now
+    → Prints old (text "refused ") a → Prints a (decimal number ++ (space ∷ [])) b → Prints b (decimal figure ++ (newline ∷ [])) new
+    → Prints old (refusal_text (record { number = number; figure = figure })) new
 unfolding refusal_text text line
 prints_refusal number figure h p q r =
     let n = number_end _ _ q in
@@ -233,21 +208,21 @@ length_diagnostics [] = omega arith
 length_diagnostics (d ∷ ds) = omega (arith, length-append (diagnostic_text d) (flat_map diagnostic_text ds), length_diagnostic d, length_diagnostics ds)
 
 -- where a diagnostic ends
-pub diagnostic_end : {old new : List ℕ} {at end : ℕ} (d : RowDiagnostic) → Prints old at (diagnostic_text d) new end → end ≤ at + longest_diagnostic
+pub diagnostic_end : {old new : Printer} (d : RowDiagnostic) → Prints old (diagnostic_text d) new → new.end ≤ old.end + longest_diagnostic
 diagnostic_end d p = omega (arith, p.ends, length_diagnostic d)
 
 -- where the first of a buffer end
-pub diagnostics_end : {old new : List ℕ} {at end : ℕ} (buffer : List ℕ) (count : ℕ) → Prints old at (flat_map diagnostic_text (diagnostics_in buffer count)) new end → end ≤ at + longest_diagnostic * count
+pub diagnostics_end : {old new : Printer} (buffer : List ℕ) (count : ℕ) → Prints old (flat_map diagnostic_text (diagnostics_in buffer count)) new → new.end ≤ old.end + longest_diagnostic * count
 unfolding diagnostics_in
 diagnostics_end buffer count p =
     omega (arith, p.ends, length_diagnostics (diagnostics_in buffer count), length_tabulate (diagnostic_in buffer) count)
 
 -- diagnostic n, by its four numbers
-pub prints_diagnostic : {old a b c new : List ℕ} {at i j k end : ℕ} (buffer : List ℕ) (n : ℕ) {row pc code value : ℕ} → at + longest_diagnostic ≤ length old
+pub prints_diagnostic : {old a b c new : Printer} (buffer : List ℕ) (n : ℕ) {row pc code value : ℕ} → old.end + longest_diagnostic ≤ length old.out.now
     → row ≡ u32_at buffer (16 * n) → pc ≡ u32_at buffer (16 * n + 4) → code ≡ u32_at buffer (16 * n + 8) → value ≡ u32_at buffer (16 * n + 12)
-    → Prints old at (decimal row ++ (space ∷ [])) a i → Prints a i (integer (signed pc) ++ (space ∷ [])) b j
-    → Prints b j (text (code_name code) ++ (space ∷ [])) c k → Prints c k (integer (signed value) ++ (newline ∷ [])) new end
-    → Prints old at (diagnostic_text (diagnostic_in buffer n)) new end
+    → Prints old (decimal row ++ (space ∷ [])) a → Prints a (integer (signed pc) ++ (space ∷ [])) b
+    → Prints b (text (code_name code) ++ (space ∷ [])) c → Prints c (integer (signed value) ++ (newline ∷ [])) new
+    → Prints old (diagnostic_text (diagnostic_in buffer n)) new
 unfolding diagnostic_text diagnostic_in line
 prints_diagnostic buffer n {row} {pc} {code} h er ep ec ev p q r s =
     let l = number_end _ _ p in
@@ -260,9 +235,9 @@ prints_diagnostic buffer n {row} {pc} {code} h er ep ec ev p q r s =
     (prints_item (text (code_name code)) (omega (arith, prints_length p, prints_length q)) r s)))
 
 -- the first n, and the next
-pub prints_diagnostics_next : {old mid new : List ℕ} {at i end : ℕ} (buffer : List ℕ) (n : ℕ) → end ≤ length old
-    → Prints old at (flat_map diagnostic_text (diagnostics_in buffer n)) mid i → Prints mid i (diagnostic_text (diagnostic_in buffer n)) new end
-    → Prints old at (flat_map diagnostic_text (diagnostics_in buffer (n + 1))) new end
+pub prints_diagnostics_next : {old mid new : Printer} (buffer : List ℕ) (n : ℕ) → new.end ≤ length old.out.now
+    → Prints old (flat_map diagnostic_text (diagnostics_in buffer n)) mid → Prints mid (diagnostic_text (diagnostic_in buffer n)) new
+    → Prints old (flat_map diagnostic_text (diagnostics_in buffer (n + 1))) new
 unfolding diagnostics_in flat_map
 prints_diagnostics_next buffer n h p q =
     let d = diagnostic_in buffer in
@@ -282,14 +257,14 @@ length_verdict Incomplete = omega arith
 length_verdict Invalid = omega arith
 
 -- where a verdict and a byte end
-pub verdict_end : {old new : List ℕ} {at end : ℕ} (v : Verdict) (b : ℕ) → Prints old at (text (verdict_name v) ++ (b ∷ [])) new end → end ≤ at + 15
+pub verdict_end : {old new : Printer} (v : Verdict) (b : ℕ) → Prints old (text (verdict_name v) ++ (b ∷ [])) new → new.end ≤ old.end + 15
 verdict_end v b p = omega (arith, p.ends, length-append (text (verdict_name v)) (b ∷ []), length_verdict v)
 
 -- the whole result, by its five parts
-pub prints_result : {old a b c d new : List ℕ} {i j k l end : ℕ} (buffer : List ℕ) (count : ℕ) (v : Verdict) → longest_answer count ≤ length old
-    → Prints old 0 (text "row place code value\n") a i → Prints a i (flat_map diagnostic_text (diagnostics_in buffer count)) b j → Prints b j (text "verdict findings\n") c k
-    → Prints c k (text (verdict_name v) ++ (space ∷ [])) d l → Prints d l (decimal count ++ (newline ∷ [])) new end
-    → Prints old 0 (result_text (diagnostics_in buffer count) (record { verdict = v; count = count })) new end
+pub prints_result : {old a b c d new : Printer} (buffer : List ℕ) (count : ℕ) (v : Verdict) → old.end + longest_answer count ≤ length old.out.now
+    → Prints old (text "row place code value\n") a → Prints a (flat_map diagnostic_text (diagnostics_in buffer count)) b → Prints b (text "verdict findings\n") c
+    → Prints c (text (verdict_name v) ++ (space ∷ [])) d → Prints d (decimal count ++ (newline ∷ [])) new
+    → Prints old (result_text (diagnostics_in buffer count) (record { verdict = v; count = count })) new
 unfolding result_text line flatten text
 prints_result buffer count v h p q r s t =
     let ends = diagnostics_end buffer count q in
@@ -303,15 +278,14 @@ prints_result buffer count v h p q r s t =
 
 -- ---- for the caller
 
--- where a refusal ends
-pub refusal_end : {old new : List ℕ} {end : ℕ} (r : Refused) → Prints old 0 (refusal_text r) new end → end ≤ 30
+-- no refusal is longer
+pub length_refusal : (r : Refused) → length (refusal_text r) ≤ 30
 unfolding refusal_text text
-refusal_end r p =
+length_refusal r =
     let number = decimal r.number in
     let figure = decimal r.figure in
     omega (
       arith,
-      p.ends,
       length_item (text "refused") number (figure ∷ []),
       length_item number figure [],
       length_last figure,
@@ -319,16 +293,15 @@ refusal_end r p =
       length_decimal r.figure,
     )
 
--- where a result ends
-pub result_end : {old new : List ℕ} {end : ℕ} (ds : List RowDiagnostic) (c : Checked) → Prints old 0 (result_text ds c) new end → end ≤ longest_answer (length ds)
+-- no result of so many diagnostics is
+pub length_result : (ds : List RowDiagnostic) (c : Checked) → length (result_text ds c) ≤ longest_answer (length ds)
 unfolding result_text flatten text
-result_end ds c p =
+length_result ds c =
     let found = flat_map diagnostic_text ds in
     let name = text (verdict_name c.verdict) in
     let last = line (name ∷ decimal c.count ∷ []) in
     omega (
       arith,
-      p.ends,
       length-append found (text "verdict findings\n" ++ (last ++ [])),
       length-append last [],
       length_diagnostics ds,

@@ -1,16 +1,18 @@
 -- Diagnostics that were written to a buffer as records are read back from it. Assumes nothing.
-use Prim.Native.Nat.{ℕ, suc, ◌+◌, ◌-◌, ◌*◌, ◌^◌, ◌≤◌, ◌<◌}
+use Prim.Native.Nat.{ℕ, suc, ◌+◌, ◌-◌, ◌*◌, ◌/◌, ◌^◌, ◌≤◌, ◌<◌}
+use native.Mathlib.Nat.{add-zero, zero-add}
 use native.Mathlib.Omega.{arith}
-use mathlib.Core.Path.{◌≡◌, refl, ap, ◌∙◌}
-use mathlib.Core.List.{List, map, flat_map}
+use mathlib.Core.Path.{◌≡◌, refl, sym, ap, ◌∙◌}
+use mathlib.Core.List.{List, ◌++◌, map, flat_map}
 use borrow.Author.Tests.{lt-ltb, le-ltb}
-use lib.ListN.{length, get_or, take, length-map, get_or-map}
+use lib.ListN.{length, get_or, take, drop, length-append, length-drop, length-map, get_or-map}
 use lib.IntN.{ℤ, pos, negsuc}
-use lib.Seq.{length-take-le, ext_get_or}
-use Rattle.opcodes.specs.Lists.{All}
+use lib.Seq.{length-take-le, ext_get_or, take_at, drop-drop, drop-append-add}
+use Rattle.opcodes.specs.Lists.{All, tabulate}
 use Rattle.opcodes.specs.Bytes.{overwrite, u32_at, i32_bits, i32_record}
 use Rattle.opcodes.proofs.AllLaws.{all_at, all_map, all_flat_map, all_imp}
 use Rattle.opcodes.proofs.ByteLaws.{u32_at_record}
+use Rattle.opcodes.proofs.PartLaws.{u32_at_part}
 use Rattle.opcodes.proofs.ListLaws.{get_d_tabulate, length_tabulate, get_d_flat_map, length_flat_map}
 use Rattle.verdict.specs.Walk.{RowDiagnostic, diagnostic_fields, diagnostic_bytes}
 use Rattle.verdict.proofs.RangeLaws.{Signed32, InRange, signed_bits_below, fields_signed}
@@ -63,3 +65,41 @@ module _ (old : List ℕ) (ds : List RowDiagnostic) (held : All (InRange (2 ^ 31
       let size = length_tabulate (diagnostic_in written) (length ds) in
       ext_get_or d (diagnostics_in written (length ds)) ds size
       (λ i h. get_d_tabulate (diagnostic_in written) (length ds) i d (omega arith) ∙ diagnostic_read i d (omega arith))
+
+-- ---- a part of a buffer
+
+-- a record of a part of a buffer
+record_part : (s : List ℕ) (a k i : ℕ) → 16 * (i + 1) ≤ k → diagnostic_in (take k (drop (16 * a) s)) i ≡ diagnostic_in s (a + i)
+unfolding diagnostic_in
+record_part s a k i h =
+    let word : (j : ℕ) → j + 4 ≤ 16 → u32_at (take k (drop (16 * a) s)) (16 * i + j) ≡ u32_at s (16 * (a + i) + j) = λ j l. u32_at_part s (16 * a) k (16 * i + j) (omega arith) ∙ ap (u32_at s) (omega arith) in
+    let first : u32_at (take k (drop (16 * a) s)) (16 * i) ≡ u32_at s (16 * (a + i)) = u32_at_part s (16 * a) k (16 * i) (omega arith) ∙ ap (u32_at s) (omega arith) in
+    rw (first, word 4 (omega arith), word 8 (omega arith), word 12 (omega arith))
+
+-- sixteen bytes off the front of what is left after i records: they are record i, and the bytes after i + 1 records are left
+pub record Cut (s part rest : List ℕ) (i : ℕ) : Type 0 where
+  pub within : 16 * (i + 1) ≤ length s
+  pub left : rest ≡ drop (16 * (i + 1)) s
+  pub value : diagnostic_in part 0 ≡ diagnostic_in s i
+
+pub cut : (s part rest : List ℕ) (i : ℕ) → 16 * i ≤ length s → drop (16 * i) s ≡ part ++ rest → length part ≡ 16 → Cut s part rest i
+cut s part rest i h e size =
+    let next : 16 * i + 16 ≡ 16 * (i + 1) = omega arith in
+    record {
+      within = omega (arith, length-drop (16 * i) s, ap length e, length-append part rest);
+      left = sym (drop-append-add part rest 0) ∙ ap (λ (n : ℕ). drop n (part ++ rest)) (add-zero (length part) ∙ size) ∙ ap (drop 16) (sym e) ∙ drop-drop 16 (16 * i) s ∙ ap (λ (n : ℕ). drop n s) next;
+      value = ap (λ (l : List ℕ). diagnostic_in l 0) (sym (take_at part rest 16 size) ∙ ap (take 16) (sym e)) ∙ record_part s i 16 0 (omega arith) ∙ ap (diagnostic_in s) (add-zero i);
+    }
+
+-- the first n records of a buffer are those of its front
+pub records_front : (s : List ℕ) (n : ℕ) → 16 * n ≤ length s → (length (take (16 * n) s) / 16 ≡ n) × (diagnostics_in (take (16 * n) s) n ≡ diagnostics_in s n)
+unfolding diagnostics_in
+records_front s n h =
+    let size = length-take-le (16 * n) s h in
+    let d = diagnostic_in s 0 in
+    let front = take (16 * n) s in
+    let count = length_tabulate (diagnostic_in front) n in (
+      omega (arith, size),
+      ext_get_or d (tabulate n (diagnostic_in front)) (tabulate n (diagnostic_in s)) (count ∙ sym (length_tabulate (diagnostic_in s) n))
+          (λ i l. get_d_tabulate (diagnostic_in front) n i d (omega (arith, count)) ∙ record_part s 0 (16 * n) i (omega (arith, count)) ∙ ap (diagnostic_in s) (zero-add i) ∙ sym (get_d_tabulate (diagnostic_in s) n i d (omega (arith, count)))),
+    )

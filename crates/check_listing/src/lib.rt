@@ -7,3 +7,4 @@ mod numbers;
 mod printer;
 mod reader;
 mod report;
+pub mod run;

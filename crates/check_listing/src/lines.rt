@@ -1,37 +1,45 @@
 // Lines of a text.
-ghost use Rattle.std.specs.Prelude.{◌≡◌, ◌+◌, ◌≤◌, drop, length};
+ghost use Rattle.std.specs.Prelude.{◌≡◌, ◌==◌, position};
+ghost use Rattle.std.specs.Iterator.{YieldsFirstRef, item_count};
 ghost use Rattle.check_listing.specs.Terms.{line_length};
-ghost use Rattle.listing.specs.Text.{same as sameText};
+ghost use Rattle.listing.specs.Text.{lines, newline};
 
-// Where the line that starts at `at` ends: past its newline, or at the end of the text where it has none.
-pub fn line_end(text: &[u8], at: usize) -> usize
-    requires { at ≤ length text.now }
-    ensures value { result ≡ at + line_length (drop at text.now) }
-    ensures within_text { result ≤ length text.now }
-{
-    let mut i = at;
-    while i < text.len() {
-        if text[i] == b'\n' {
-            return i + 1;
-        }
-        i += 1;
-    }
-    i
+// The lines that are left of a text, each with its newline; the last has none where the end of the text cuts it.
+#[derive(Drop)]
+pub struct Lines<'a> {
+    pub rest: &'a [u8],
 }
 
-// Whether two texts are the same.
-pub fn same(a: &[u8], b: &[u8]) -> bool
-    ensures { result ≡ sameText a.now b.now }
-{
-    if a.len() != b.len() {
-        return false;
-    }
-    let mut i = 0;
-    while i < a.len() {
-        if a[i] != b[i] {
-            return false;
+impl<'a> Iterator for Lines<'a> {
+    type Item = &'a [u8];
+
+    ghost next_gives = { YieldsFirstRef (λ s. lines s.rest.now) };
+
+    ghost remaining = { item_count (λ s. lines s.rest.now) };
+
+    fn next(&mut self) -> Option<&'a [u8]> {
+        if self.rest.is_empty() {
+            return None;
         }
-        i += 1;
+        let (line, rest) = self.rest.split_at(line_end(self.rest));
+        self.rest = rest;
+        Some(line)
     }
-    true
+}
+
+// Where the first line ends: past its newline, or with the text where it has none.
+fn line_end(text: &[u8]) -> usize
+    ensures { result ≡ line_length text.now }
+{
+    match newline(text) {
+        Some(at) => at + 1,
+        None => text.len(),
+    }
+}
+
+// Where the first newline is.
+fn newline(text: &[u8]) -> Option<usize>
+    ensures { result ≡ position (λ c. c == newline) text.now }
+{
+    text.iter().position(|c| *c == b'\n')
 }

@@ -1,161 +1,97 @@
 // Numbers in a line: decimals, and words of hexadecimal digits.
-ghost use Rattle.std.specs.Prelude.{◌≡◌, ◌+◌, ◌<◌, ◌≤◌, drop, get_or, length, take};
-ghost use Rattle.check_listing.specs.Terms.{as_u32, decimal_of, leading_zero, number_of, numbers_of};
+ghost use Rattle.std.specs.Prelude.{◌≡◌, ◌≤◌, length};
+ghost use Rattle.check_listing.specs.Terms.{as_u32, decimal_of, option_of};
 ghost use Rattle.listing.specs.Listing.{decimals, hex_word, separator};
 ghost use Rattle.listing.specs.Text.{digit_value, is_digit, is_hex_digit, value_of};
-ghost use Rattle.opcodes.specs.Lists.{every, take_while};
+ghost use Rattle.std.specs.List.{list_all, take_while};
 
-// What digits are worth, where that is a u32.
-#[derive(Clone, Copy)]
-pub enum Number {
-    Value(u32),
-    Malformed,
-}
+// The digits of a word.
+const WORD_DIGITS: usize = 8;
 
-// Parses a line of so many decimals into the front of `numbers`. Whether it is one.
-pub fn parse_decimals(line: &[u8], count: usize, numbers: &mut [u32]) -> bool
-    requires { count ≤ length numbers.old }
-    ensures { numbers_of result (take count numbers.new) ≡ decimals count line.now }
+// Parses a line of N decimals.
+pub fn parse_decimals<const N: usize>(line: &[u8]) -> Option<[u32; N]>
+    ensures { option_of result ≡ decimals N line.now }
 {
-    let mut at = 0;
-    let mut i = 0;
-    while i < count {
-        let end = digits_end(line, at);
-        let Number::Value(value) = decimal_value(&line[at..end]) else {
-            return false;
-        };
-        if byte_at(line, end) != separator_after(count - (i + 1)) {
-            return false;
+    let mut numbers = [0; N];
+    let mut rest = line;
+    for (i, number) in numbers.iter_mut().enumerate() {
+        let (digits, after) = rest.split_at(digits_count(rest));
+        *number = decimal_value(digits)?;
+        let (end, next) = after.split_first()?;
+        if *end != separator_after(N - (i + 1)) {
+            return None;
         }
-        numbers[i] = value;
-        at = end + 1;
-        i += 1;
+        rest = next;
     }
-    at == line.len()
+    if rest.is_empty() { Some(numbers) } else { None }
 }
 
 // Parses a line of eight hexadecimal digits.
-pub fn parse_word(line: &[u8]) -> Number
-    ensures { number_of result ≡ hex_word line.now }
+pub fn parse_word(line: &[u8]) -> Option<u32>
+    ensures { option_of result ≡ hex_word line.now }
 {
-    if line.len() != 9 {
-        return Number::Malformed;
+    if line.len() != WORD_DIGITS + 1 || line[WORD_DIGITS] != b'\n' {
+        return None;
     }
-    if !are_hex_digits(&line[..8]) {
-        return Number::Malformed;
+    let digits = &line[..WORD_DIGITS];
+    if !are_hex_digits(digits) {
+        return None;
     }
-    if line[8] != b'\n' {
-        return Number::Malformed;
-    }
-    digits_value(&line[..8], 16)
+    digits_value(digits, 16)
 }
 
 // The value of a decimal: at least one digit, no leading zero, a u32.
-fn decimal_value(digits: &[u8]) -> Number
-    ensures { number_of result ≡ decimal_of digits.now }
+fn decimal_value(digits: &[u8]) -> Option<u32>
+    ensures { option_of result ≡ decimal_of digits.now }
 {
-    if digits.len() == 0 {
-        return Number::Malformed;
-    }
-    if has_leading_zero(digits) {
-        return Number::Malformed;
+    if digits.is_empty() || digits[0] == b'0' && digits.len() > 1 {
+        return None;
     }
     digits_value(digits, 10)
 }
 
-#[tactic(auto, unfolding(crate::specs::Terms::leading_zero))]
-fn has_leading_zero(digits: &[u8]) -> bool
-    ensures { result ≡ leading_zero digits.now }
+// How many digits are in front.
+#[tactic(auto, unfolding(listing::specs::Text::is_digit))]
+fn digits_count(text: &[u8]) -> usize
+    ensures { result ≡ length (take_while is_digit text.now) }
 {
-    if digits.len() < 2 {
-        return false;
-    }
-    digits[0] == b'0'
-}
-
-// Where the digits from `at` on end.
-fn digits_end(line: &[u8], at: usize) -> usize
-    requires { at ≤ length line.now }
-    ensures value { result ≡ at + length (take_while is_digit (drop at line.now)) }
-    ensures within_line { result ≤ length line.now }
-{
-    let mut i = at;
-    while i < line.len() {
-        if !is_digit(line[i]) {
-            return i;
-        }
-        i += 1;
-    }
-    i
+    text.iter().take_while(|c| c.is_ascii_digit()).count()
 }
 
 // The value of digits at a base.
-#[tactic(auto, using(crate::proofs::NumberLaws::too_large))]
-fn digits_value(digits: &[u8], base: u64) -> Number
-    requires base_not_zero { 1 ≤ base }
-    requires base_at_most_16 { base ≤ 16 }
-    ensures { number_of result ≡ as_u32 (value_of base digits.now) }
+fn digits_value(digits: &[u8], base: u32) -> Option<u32>
+    requires { 1 ≤ base }
+    ensures { option_of result ≡ as_u32 (value_of base digits.now) }
 {
-    let mut value: u64 = 0;
-    let mut i = 0;
-    while i < digits.len() {
-        value = value * base + digit_value(digits[i]);
-        if 0xffff_ffff < value {
-            return Number::Malformed;
-        }
-        i += 1;
+    let mut value: u32 = 0;
+    for digit in digits {
+        value = value.checked_mul(base)?.checked_add(digit_value(*digit))?;
     }
-    Number::Value(value as u32)
+    Some(value)
 }
 
+// Whether all are hexadecimal digits.
 fn are_hex_digits(digits: &[u8]) -> bool
-    ensures { result ≡ every is_hex_digit digits.now }
+    ensures { result ≡ list_all is_hex_digit digits.now }
 {
-    let mut i = 0;
-    while i < digits.len() {
-        if !is_hex_digit(digits[i]) {
-            return false;
-        }
-        i += 1;
-    }
-    true
+    digits.iter().all(|c| is_hex_digit(*c))
 }
 
+// What a digit is worth. By the definition every byte has a worth: `to_digit` gives one to digits alone.
 #[tactic(auto, unfolding(listing::specs::Text::is_digit, listing::specs::Text::digit_value))]
-fn digit_value(c: u8) -> u64
-    ensures value { result ≡ digit_value c }
-    ensures below_256 { result < 256 }
+fn digit_value(c: u8) -> u32
+    ensures { result ≡ digit_value c }
 {
-    if is_digit(c) {
-        return (c - 48) as u64;
-    }
-    if c < 87 {
-        return 0;
-    }
-    (c - 87) as u64
+    let zero = if c.is_ascii_digit() { b'0' } else { b'a' - 10 };
+    u32::from(c.saturating_sub(zero))
 }
 
-#[tactic(auto, unfolding(listing::specs::Text::is_digit))]
-fn is_digit(c: u8) -> bool
-    ensures { result ≡ is_digit c }
-{
-    if c < 48 {
-        return false;
-    }
-    c <= 57
-}
-
+// Whether a byte is a digit, 0 to 9 or a to f. (`is_ascii_hexdigit` takes A to F too.)
 #[tactic(auto, unfolding(listing::specs::Text::is_digit, listing::specs::Text::is_hex_digit))]
 fn is_hex_digit(c: u8) -> bool
     ensures { result ≡ is_hex_digit c }
 {
-    if is_digit(c) {
-        return true;
-    }
-    if c < 97 {
-        return false;
-    }
-    c <= 102
+    matches!(c, b'0'..=b'9' | b'a'..=b'f')
 }
 
 // What comes after a number where so many are still to come.
@@ -163,18 +99,5 @@ fn is_hex_digit(c: u8) -> bool
 fn separator_after(left: usize) -> u8
     ensures { result ≡ separator left }
 {
-    if left == 0 {
-        return b'\n';
-    }
-    b' '
-}
-
-// The byte there, or 0 past the end.
-fn byte_at(line: &[u8], at: usize) -> u8
-    ensures { result ≡ get_or line.now at 0 }
-{
-    if line.len() <= at {
-        return 0;
-    }
-    line[at]
+    if left == 0 { b'\n' } else { b' ' }
 }

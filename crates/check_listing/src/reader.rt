@@ -1,12 +1,12 @@
 // The listing reader: an image from the bytes of a listing, or refusal 9 or 10 at the first line that gives it.
-ghost use Rattle.std.specs.Prelude.{◌≡◌, ℕ, ◌+◌, ◌*◌, ◌≤◌, List, drop, length};
-ghost use Rattle.check_listing.specs.Terms.{HeadFits, LineFits, ListingFits, RowsFit, WordsFit, head_then, line_from, listing_of, read_body, read_code, rows_then, words_then};
+ghost use Rattle.std.specs.Prelude.{◌≡◌, ℕ, ◌+◌, ◌≤◌, List, ◌∷◌, IfOk, MatchResult};
+ghost use Rattle.check_listing.specs.Terms.{head_then, listing_of, read_body, read_code, refused_of, rows_then, words_then};
+ghost use Rattle.check_listing.specs.declared.reader.Unread.TheVariants.{MalformedLine};
 ghost use Rattle.listing.specs.Listing.{max_listing_rows, max_listing_words, read_listing};
 ghost use Rattle.listing.specs.Text.{lines};
-ghost use Rattle.chunk.specs.Table.{row_bytes};
 
-use crate::lines::{line_end, same};
-use crate::numbers::{Number, parse_decimals, parse_word};
+use crate::lines::Lines;
+use crate::numbers::{parse_decimals, parse_word};
 use opcodes::bytes::{write_record, write_u32};
 use roles::table::ROW_BYTES;
 
@@ -15,174 +15,135 @@ pub const MAX_ROWS: usize = 64;
 
 pub const MAX_WORDS: usize = 2048;
 
-// Refusals 9 and 10, each with the number of its line.
-#[derive(Clone, Copy)]
+// Room for them.
+pub const PROTOS_LEN: usize = ROW_BYTES * MAX_ROWS;
+
+pub const WORDS_LEN: usize = 4 * MAX_WORDS;
+
+// Refusals 9 and 10, each with the number of its line. (`number` and `figure` are those of roles' `Refusal`. No trait has both: each has one caller, and the
+// figures are of two types.)
+#[derive(Clone, Copy, PartialEq, Eq, Debug)]
 pub enum Unread {
     MalformedLine(usize),
     ListingTooLong(usize),
 }
 
-// What was read of a listing: how many rows and words, and the incoming numbers.
-#[derive(Clone, Copy)]
-pub enum Listing {
-    Refused(Unread),
-    Read(usize, usize, u32, u32),
-}
-
-// The incoming numbers, and where the rows start.
-#[derive(Clone, Copy)]
-pub enum Head {
-    Refused(Unread),
-    Read(u32, u32, usize),
-}
-
-// How many rows, and where the words start.
-#[derive(Clone, Copy)]
-pub enum Rows {
-    Refused(Unread),
-    Read(usize, usize),
-}
-
-// How many words.
-#[derive(Clone, Copy)]
-pub enum Words {
-    Refused(Unread),
-    Read(usize),
-}
-
-// Where the next line starts.
-#[derive(Clone, Copy)]
-pub enum Line {
-    Ends(usize),
-    Other,
-}
-
-// Reads a listing into a table and words. What these hold after a refusal is left free.
-#[tactic(auto, unfolding(crate::specs::Terms::HeadFits, crate::specs::Terms::ListingFits, crate::specs::Terms::head_then, crate::specs::Terms::listing_of))]
-pub fn read_listing(text: &[u8], protos: &mut [u8], words: &mut [u8]) -> Listing
-    requires protos_len { length protos.old ≡ row_bytes * max_listing_rows }
-    requires words_len { length words.old ≡ 4 * max_listing_words }
-    ensures reading { read_listing text.now ≡ listing_of protos.new words.new result }
-    ensures within_limits { ListingFits result }
-{
-    match read_head(text) {
-        Head::Refused(unread) => Listing::Refused(unread),
-        Head::Read(warnings, errors, at) => read_body(text, at, warnings, errors, protos, words),
+impl Unread {
+    // Its number, 9 or 10.
+    #[tactic(auto, unfolding(crate::specs::Terms::refused_of))]
+    pub fn number(self) -> u8
+        ensures { result ≡ (refused_of self).number }
+    {
+        match self {
+            Unread::MalformedLine(_) => 9,
+            Unread::ListingTooLong(_) => 10,
+        }
     }
+
+    // Its figure: the line.
+    #[tactic(auto, unfolding(crate::specs::Terms::refused_of))]
+    pub fn figure(self) -> usize
+        ensures { result ≡ (refused_of self).figure }
+    {
+        match self {
+            Unread::MalformedLine(line) | Unread::ListingTooLong(line) => line,
+        }
+    }
+}
+
+// A listing that was read: a table, words, and the incoming numbers.
+#[derive(Clone, Copy)]
+pub struct Listing<'a> {
+    pub protos: &'a [u8],
+    pub words: &'a [u8],
+    pub warnings: u32,
+    pub errors: u32,
+}
+
+// What the first three lines say: the incoming numbers.
+#[derive(Clone, Copy)]
+struct Head {
+    warnings: u32,
+    errors: u32,
+}
+
+// Reads a listing into a table and words.
+#[tactic(auto, unfolding(crate::specs::Terms::head_then, crate::specs::Terms::listing_of, crate::specs::Terms::rows_then, crate::specs::Terms::words_then))]
+pub fn read_listing<'a>(
+    text: &[u8],
+    protos: &'a mut [u8; PROTOS_LEN],
+    words: &'a mut [u8; WORDS_LEN],
+) -> Result<Listing<'a>, Unread>
+    ensures { read_listing text.now ≡ listing_of result }
+{
+    let mut left = Lines { rest: text };
+    let head = read_head(&mut left)?;
+    let rows = read_rows(&mut left, protos)?;
+    let count = read_words(&mut left, 5 + rows, words)?;
+    Ok(Listing {
+        protos: &protos[..ROW_BYTES * rows],
+        words: &words[..4 * count],
+        warnings: head.warnings,
+        errors: head.errors,
+    })
 }
 
 // The first three lines.
-#[tactic(auto, unfolding(crate::specs::Terms::HeadFits, crate::specs::Terms::LineFits))]
-fn read_head(text: &[u8]) -> Head
-    ensures reading { read_listing text.now ≡ head_then text.now result }
-    ensures within_text { HeadFits (length text.now) result }
+fn read_head(text: &mut Lines) -> Result<Head, Unread>
+    ensures { read_listing text.old.rest.now ≡ head_then (lines text.new.rest.now) result }
 {
-    let Line::Ends(start) = skip_line(text, 0, b"warnings errors\n") else {
-        return Head::Refused(Unread::MalformedLine(1));
-    };
-    let end = line_end(text, start);
-    let mut incoming = [0u32; 2];
-    if !parse_decimals(&text[start..end], 2, &mut incoming) {
-        return Head::Refused(Unread::MalformedLine(2));
-    }
-    let Line::Ends(at) = skip_line(text, end, b"depth words constants upvalues stack\n") else {
-        return Head::Refused(Unread::MalformedLine(3));
-    };
-    Head::Read(incoming[0], incoming[1], at)
+    skip_line(text, 1, b"warnings errors\n")?;
+    let line = text.next().ok_or(Unread::MalformedLine(2))?;
+    let [warnings, errors] = parse_decimals::<2>(line).ok_or(Unread::MalformedLine(2))?;
+    skip_line(text, 3, b"depth words constants upvalues stack\n")?;
+    Ok(Head { warnings, errors })
 }
 
-// Past the line that starts at `at`, where it is this one.
-#[tactic(auto, unfolding(crate::specs::Terms::line_from, crate::specs::Terms::LineFits))]
-fn skip_line(text: &[u8], at: usize, line: &[u8]) -> Line
-    requires { at ≤ length text.now }
-    ensures value { result ≡ line_from text.now at line.now }
-    ensures within_text { LineFits (length text.now) result }
+// Skips line number `at`, which must be this one.
+fn skip_line(text: &mut Lines, at: usize, line: &[u8]) -> Result<(), Unread>
+    ensures { MatchResult result (λ _. lines text.old.rest.now ≡ line.now ∷ lines text.new.rest.now) (λ u. (u ≡ MalformedLine at) × ((ls : List (List ℕ)) → lines text.old.rest.now ≡ line.now ∷ ls → ⊥)) }
 {
-    let end = line_end(text, at);
-    if same(&text[at..end], line) {
-        return Line::Ends(end);
-    }
-    Line::Other
-}
-
-// The rows, and then the words.
-#[tactic(auto, unfolding(crate::specs::Terms::ListingFits, crate::specs::Terms::RowsFit, crate::specs::Terms::WordsFit, crate::specs::Terms::listing_of, crate::specs::Terms::rows_then, crate::specs::Terms::words_then))]
-fn read_body(
-    text: &[u8],
-    at: usize,
-    warnings: u32,
-    errors: u32,
-    protos: &mut [u8],
-    words: &mut [u8],
-) -> Listing
-    requires at_within_text { at ≤ length text.now }
-    requires protos_len { length protos.old ≡ row_bytes * max_listing_rows }
-    requires words_len { length words.old ≡ 4 * max_listing_words }
-    ensures reading { read_body (lines (drop at text.now)) warnings errors ≡ listing_of protos.new words.new result }
-    ensures within_limits { ListingFits result }
-{
-    match read_rows(text, at, protos) {
-        Rows::Refused(unread) => Listing::Refused(unread),
-        Rows::Read(rows, start) => {
-            match read_words(text, start, 5 + rows, words) {
-                Words::Refused(unread) => Listing::Refused(unread),
-                Words::Read(count) => Listing::Read(rows, count, warnings, errors),
-            }
-        }
+    match text.next() {
+        Some(next) if next == line => Ok(()),
+        _ => Err(Unread::MalformedLine(at)),
     }
 }
 
-// The rows, up to the line "word".
-#[tactic(auto, unfolding(crate::specs::Terms::RowsFit))]
-fn read_rows(text: &[u8], start: usize, protos: &mut [u8]) -> Rows
-    requires start_within_text { start ≤ length text.now }
-    requires protos_len { length protos.old ≡ row_bytes * max_listing_rows }
-    ensures reading { (warnings errors : ℕ) → read_body (lines (drop start text.now)) warnings errors ≡ rows_then text.now warnings errors protos.new result }
-    ensures within_limits { RowsFit (length text.now) result }
+// The rows, up to the line "word". Their number is counted by hand: it is needed after the last line too, and `enumerate` numbers the lines alone.
+fn read_rows(text: &mut Lines, protos: &mut [u8; PROTOS_LEN]) -> Result<usize, Unread>
+    ensures reading { (warnings errors : ℕ) → read_body (lines text.old.rest.now) warnings errors ≡ rows_then (lines text.new.rest.now) warnings errors protos.new result }
+    ensures within_limits { IfOk result (λ rows. rows ≤ max_listing_rows) }
 {
-    let mut at = start;
     let mut rows = 0;
-    while at < text.len() {
-        let end = line_end(text, at);
-        if same(&text[at..end], b"word\n") {
-            return Rows::Read(rows, end);
+    while let Some(line) = text.next() {
+        if line == b"word\n".as_slice() {
+            return Ok(rows);
         }
-        let mut fields = [0u32; 5];
-        if !parse_decimals(&text[at..end], 5, &mut fields) {
-            return Rows::Refused(Unread::MalformedLine(4 + rows));
-        }
+        let fields = parse_decimals::<5>(line).ok_or(Unread::MalformedLine(4 + rows))?;
         if rows == MAX_ROWS {
-            return Rows::Refused(Unread::ListingTooLong(4 + rows));
+            return Err(Unread::ListingTooLong(4 + rows));
         }
         write_record(protos, ROW_BYTES * rows, &fields);
         rows += 1;
-        at = end;
     }
-    Rows::Refused(Unread::MalformedLine(4 + rows))
+    Err(Unread::MalformedLine(4 + rows))
 }
 
-// The words, up to the end, from the line of this number on.
-#[tactic(auto, unfolding(crate::specs::Terms::WordsFit))]
-fn read_words(text: &[u8], start: usize, line: usize, words: &mut [u8]) -> Words
-    requires start_within_text { start ≤ length text.now }
-    requires first_word_line { line ≤ 5 + max_listing_rows }
-    requires words_len { length words.old ≡ 4 * max_listing_words }
-    ensures reading { (table : List ℕ) (warnings errors : ℕ) → read_code line (lines (drop start text.now)) table warnings errors ≡ words_then table warnings errors words.new result }
-    ensures within_limits { WordsFit result }
+// The words, up to the end, from the line of this number on. (Rows end at a line, words with the text: one function would take all that differs.)
+// Counted by hand as rows are: their number is the answer, after the last line.
+fn read_words(text: &mut Lines, first: usize, words: &mut [u8; WORDS_LEN]) -> Result<usize, Unread>
+    requires { first ≤ 5 + max_listing_rows }
+    ensures reading { (table : List ℕ) (warnings errors : ℕ) → read_code first (lines text.old.rest.now) table warnings errors ≡ words_then table warnings errors words.new result }
+    ensures within_limits { IfOk result (λ count. count ≤ max_listing_words) }
 {
-    let mut at = start;
     let mut count = 0;
-    while at < text.len() {
-        let end = line_end(text, at);
-        let Number::Value(word) = parse_word(&text[at..end]) else {
-            return Words::Refused(Unread::MalformedLine(line + count));
-        };
+    while let Some(line) = text.next() {
+        let word = parse_word(line).ok_or(Unread::MalformedLine(first + count))?;
         if count == MAX_WORDS {
-            return Words::Refused(Unread::ListingTooLong(line + count));
+            return Err(Unread::ListingTooLong(first + count));
         }
         write_u32(words, 4 * count, word);
         count += 1;
-        at = end;
     }
-    Words::Read(count)
+    Ok(count)
 }

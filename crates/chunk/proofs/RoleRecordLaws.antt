@@ -33,9 +33,9 @@ records_next old m new at to rs ss start room e d =
     i32_record_next role_fields old m new at to rs ss (omega (arith, length_records rs)) (omega (arith, length_records rs, length_records ss)) e d
 
 -- one binding word more
-pub binding_next : (old m new : List ℕ) (pc j : ℕ) → role_bytes * (pc + 1 + (j + 1)) ≤ length old → m ≡ overwrite old (role_bytes * (pc + 1)) (records_of (tabulate j (ClosureBinding pc)))
-    → new ≡ overwrite m (role_bytes * (pc + 1 + j)) (records_of (ClosureBinding pc j ∷ [])) → new ≡ overwrite old (role_bytes * (pc + 1)) (records_of (tabulate (j + 1) (ClosureBinding pc)))
+pub binding_next : (old m new : List ℕ) (pc j : ℕ) → role_bytes * (j + 1) ≤ length old → m ≡ overwrite old 0 (records_of (tabulate j (ClosureBinding pc)))
+    → new ≡ overwrite m (role_bytes * j) (records_of (ClosureBinding pc j ∷ [])) → new ≡ overwrite old 0 (records_of (tabulate (j + 1) (ClosureBinding pc)))
 binding_next old m new pc j room e d =
     let count = length_tabulate (ClosureBinding pc) j in
-    records_next old m new (role_bytes * (pc + 1)) (role_bytes * (pc + 1 + j)) (tabulate j (ClosureBinding pc)) (ClosureBinding pc j ∷ []) (omega arith) (omega arith) e d
-    ∙ ap (λ (rs : List Role). overwrite old (role_bytes * (pc + 1)) (records_of rs)) (sym (ap (λ (n : ℕ). tabulate n (ClosureBinding pc)) (add-one j) ∙ tabulate_next (ClosureBinding pc) j))
+    records_next old m new 0 (role_bytes * j) (tabulate j (ClosureBinding pc)) (ClosureBinding pc j ∷ []) (omega arith) (omega arith) e d
+    ∙ ap (λ (rs : List Role). overwrite old 0 (records_of rs)) (sym (ap (λ (n : ℕ). tabulate n (ClosureBinding pc)) (add-one j) ∙ tabulate_next (ClosureBinding pc) j))

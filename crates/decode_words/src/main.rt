@@ -4,34 +4,33 @@
 
 mod columns;
 mod listing;
-mod names;
 
-use input::read_full;
-use listing::Listing;
+use input::{INPUT_LEN, read_full};
+use listing::{LINE_BYTES, parse_line};
 use std::io;
 
 fn main(rt: HostRuntime) {
-    let mut text = [0u8; 65536];
+    // An array: no more is read, and no memory is taken from a heap.
+    let mut text = [0u8; INPUT_LEN];
     let got = read_full(&mut rt.reader(), &mut text);
     // An output that cannot be written is not reported.
     let _ = print_listing(&rt, &text[..got]);
 }
 
+// The number of the first line that is not in form, counted from 1, or the lines of the words.
 fn print_listing(rt: &impl Print, text: &[u8]) -> io::Result<()> {
-    let mut words = [0u8; 65536];
-    match listing::parse(text, &mut words) {
-        Listing::Malformed(line) => println!(rt; "malformed line {line}"),
-        Listing::Words(end) => print_words(rt, &words, end),
+    let malformed = text
+        .chunks(LINE_BYTES)
+        .position(|line| parse_line(line).is_none());
+    if let Some(before) = malformed {
+        let line = before + 1;
+        return println!(rt; "malformed line {line}");
     }
-}
-
-// The lines of the words in the first `end` bytes.
-fn print_words(rt: &impl Print, words: &[u8], end: usize) -> io::Result<()> {
     println!(rt;
         "word opcode a b c bx sbx b_k b_index c_k c_index record name mode a_reg b_reg b_rk c_reg c_rk"
     )?;
-    for i in 0..end / 4 {
-        columns::print_word(rt, opcodes::bytes::read_u32(words, 4 * i))?;
+    for word in text.chunks(LINE_BYTES).filter_map(parse_line) {
+        columns::print_word(rt, word)?;
     }
     Ok(())
 }

@@ -1,4 +1,5 @@
-// The C interface, as include/luad51.h declares it. A call's answer goes out as one number.
+// The C interface, as include/luad51.h declares it. A call's answer goes out as one number. Slices and buffers are parameters, each by itself, as C lends
+// them.
 #![tactic(auto)]
 
 ghost use Rattle.std.specs.Prelude.{◌≡◌, length};
@@ -8,7 +9,7 @@ ghost use Rattle.roles.specs.Terms.{answer_of, refused_of};
 ghost use Rattle.validator.specs.Terms.{answer_of as validationOf, image_of, verdict_in};
 ghost use Rattle.verdict.specs.Check.{check_answer, diagnostics_after};
 
-use roles::calls::{Answer, write_bindings, write_roles};
+use roles::calls::{write_bindings, write_roles};
 use roles::refusals::Refusal;
 use validator::calls::{Validation, Verdict, validate_chunk_lua51};
 
@@ -58,17 +59,18 @@ pub extern "C" fn luad51_check(
 }
 
 // The number of a refusal, or of diagnostics with the verdict's.
-#[tactic(auto, unfolding(crate::specs::Results::check_result, crate::specs::Results::ReadsCheck, validator::specs::Terms::answer_of))]
-fn check_result(validation: Validation) -> u64
-    ensures value { result ≡ check_result (validationOf validation) }
-    ensures reads_check { ReadsCheck result (validationOf validation) }
+#[tactic(auto, unfolding(crate::specs::Results::check_result, crate::specs::Results::ReadsCheck, validator::specs::Terms::answer_of, validator::specs::Terms::checked_in))]
+fn check_result(answer: Result<Validation, Refusal>) -> u64
+    ensures value { result ≡ check_result (validationOf answer) }
+    ensures reads_check { ReadsCheck result (validationOf answer) }
 {
-    match validation {
-        Validation::Refused(refusal) => refused_result(refusal),
-        Validation::Checked(verdict, count) => pack(count, 0, verdict_number(verdict)),
+    match answer {
+        Ok(validation) => pack(validation.count, 0, verdict_number(validation.verdict)),
+        Err(refusal) => refused_result(refusal),
     }
 }
 
+// The header's number of a verdict: the C interface fixes it.
 #[tactic(auto, unfolding(crate::specs::Results::verdict_number, validator::specs::Terms::verdict_in))]
 fn verdict_number(verdict: Verdict) -> u8
     ensures { result ≡ verdict_number (verdict_in verdict) }
@@ -80,35 +82,28 @@ fn verdict_number(verdict: Verdict) -> u8
     }
 }
 
-// The number of a refusal or of records.
+// The number of a refusal or of records. (Beside `check_result`: that has a verdict too, which a common answer would carry for both.)
 #[tactic(auto, unfolding(crate::specs::Results::count_result, crate::specs::Results::Reads, roles::specs::Terms::answer_of))]
-fn count_result(answer: Answer) -> u64
+fn count_result(answer: Result<u32, Refusal>) -> u64
     ensures value { result ≡ count_result (answer_of answer) }
     ensures reads { Reads result (answer_of answer) }
 {
     match answer {
-        Answer::Refused(refusal) => refused_result(refusal),
-        Answer::Records(count) => pack(count, 0, 0),
+        Ok(count) => pack(count, 0, 0),
+        Err(refusal) => refused_result(refusal),
     }
 }
 
-#[tactic(auto, unfolding(crate::specs::Results::refused_result, roles::specs::Terms::refused_of))]
+// The number of a refusal, without a verdict.
+#[tactic(auto, unfolding(crate::specs::Results::refused_result))]
 fn refused_result(refusal: Refusal) -> u64
     ensures value { result ≡ refused_result (refused_of refusal) }
     ensures read_as { ReadAs result (refused_of refusal).number (refused_of refusal).figure 0 }
 {
-    match refusal {
-        Refusal::NoProtos => pack(0, 1, 0),
-        Refusal::PartialRow => pack(0, 2, 0),
-        Refusal::TooLarge => pack(0, 3, 0),
-        Refusal::BadDepth(row) => pack(row, 4, 0),
-        Refusal::FieldOverLimit(row) => pack(row, 5, 0),
-        Refusal::WordCountMismatch => pack(0, 6, 0),
-        Refusal::RoleBufferTooShort => pack(0, 7, 0),
-        Refusal::BufferTooShort(records) => pack(records, 8, 0),
-    }
+    pack(refusal.figure(), refusal.number(), 0)
 }
 
+// The three in one number, of which the header's accessors take each.
 fn pack(figure: u32, refusal: u8, verdict: u8) -> u64
     ensures value { result ≡ packed figure refusal verdict }
     ensures read_as { ReadAs result refusal figure verdict }

@@ -1,11 +1,12 @@
 -- Laws of numbers in bytes and of overwritten buffers. Assumes nothing.
-use Prim.Native.Nat.{ℕ, zero, suc, ◌+◌, ◌-◌, ◌*◌, ◌/◌, ◌%◌, ◌≤◌, ◌<◌, ◌^◌}
+use Prim.Native.Nat.{ℕ, zero, suc, ◌+◌, ◌*◌, ◌/◌, ◌%◌, ◌≤◌, ◌<◌, ◌^◌}
 use native.Mathlib.Nat.{add-zero, zero-add, add_assoc, div-div-eq-div-mul, mod-eq_of_lt, not-suc-le-zero, le_of_suc-le-suc}
 use native.Mathlib.Numerals.{add-one}
 use native.Mathlib.Omega.{arith}
 use mathlib.Core.Path.{◌≡◌, refl, sym, ap, ap₂, ◌∙◌}
-use mathlib.Core.Bool.{Bool, true, false, cond, not}
+use mathlib.Core.Bool.{Bool, true, false, cond}
 use mathlib.Core.List.{List, [], ◌∷◌, ◌++◌, append_assoc, append-nil, flat_map, map, map-append}
+use borrow.Rule.Slice.PartMut.{put_mid, post_of}
 use borrow.Author.Tests.{le-leb, lt-leb, leb-true, leb-false}
 use lib.Dec.{leb}
 use lib.ListN.{length, get_or, take, drop, drop_of_length-le, length-append, length-map, length-take, length-drop, take-append-drop}
@@ -62,6 +63,14 @@ overwrite_whole old new h = overwrite_front old new (omega arith) ∙ ap (λ (l 
 -- stores one after the other are one write
 pub sets_overwrite : (old : List ℕ) (at : ℕ) (new : List ℕ) → at + length new ≤ length old → sets old at new ≡ overwrite old at new
 sets_overwrite old at new h = sets-eq new old at h ∙ sym (overwrite_fits old at new h)
+
+-- bytes copied into a part of a buffer are a write
+pub put_overwrite : (old new copied : List ℕ) (at k : ℕ) → copied ≡ new → k ≡ length new → at + k ≤ length old → put_mid at k old copied ≡ overwrite old at new
+put_overwrite old new copied at k e n h =
+    ap₂ (λ (l : List ℕ) (m : ℕ). take at old ++ (l ++ post_of at m old)) e n
+    ∙ ap (λ (l : List ℕ). take at old ++ (new ++ l)) (drop-drop (length new) at old)
+    ∙ sym (append_assoc (take at old) new (drop (at + length new) old))
+    ∙ sym (overwrite_fits old at new (omega arith))
 
 pub length_overwrite : (old : List ℕ) (at : ℕ) (new : List ℕ) → length (overwrite old at new) ≡ length old
 unfolding overwrite
@@ -131,6 +140,10 @@ module _ {A : Type 0} (f : A → List ℤ) where
 u32_record_snoc : (ns : List ℕ) (n : ℕ) → u32_record (ns ++ (n ∷ [])) ≡ u32_record ns ++ u32_bytes n
 unfolding u32_record flat_map
 u32_record_snoc ns n = u32_record_append ns (n ∷ []) ∙ ap (λ (l : List ℕ). u32_record ns ++ l) (append-nil (u32_bytes n))
+
+pub record_one : (n : ℕ) → u32_record (n ∷ []) ≡ u32_bytes n
+unfolding u32_record flat_map
+record_one n = append-nil (u32_bytes n)
 
 pub record_none : (old : List ℕ) (at : ℕ) → overwrite old at (u32_record []) ≡ old
 unfolding u32_record flat_map

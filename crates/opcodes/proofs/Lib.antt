@@ -1,5 +1,4 @@
 pub mod AllLaws
-pub mod Arms
 pub mod ByteLaws
 pub mod FieldLaws
 pub mod ListLaws

@@ -5,6 +5,8 @@ use Rattle.opcodes.specs.declared.Opcode51.{Opcode51}
 use Rattle.opcodes.specs.declared.Opcode51.TheVariants.{Move, LoadK, LoadBool, LoadNil, GetUpval, GetGlobal, GetTable, SetGlobal, SetUpval, SetTable, NewTable, SelfOp, Add, Sub, Mul, Div, Mod, Pow, Unm, Not, Len, Concat, Jmp, Eq, Lt, Le, Test, TestSet, Call, TailCall, Return, ForLoop, ForPrep, TForLoop, SetList, Close, Closure, VarArg}
 use Rattle.opcodes.specs.declared.OpcodeField.{OpcodeField}
 use Rattle.opcodes.specs.declared.OpcodeField.TheVariants.{Known, Unknown}
+use Rattle.opcodes.specs.declared.Field.{Field as OperandField}
+use Rattle.opcodes.specs.declared.Field.TheVariants.{B as AtB, C as AtC}
 use Rattle.opcodes.specs.declared.OpMode51.{OpMode51}
 use Rattle.opcodes.specs.declared.OpMode51.TheVariants.{IABC, IABx, IAsBx}
 use Rattle.opcodes.specs.declared.RawInstruction51.{RawInstruction51}
@@ -235,6 +237,11 @@ B = record { position = 23; fixed = MOVE ∷ LOADNIL ∷ GETTABLE ∷ SELF ∷ U
 unfoldable pub C : Field
 C = record { position = 14; fixed = CONCAT ∷ []; rk = rk_both ++ GETTABLE ∷ SELF ∷ [] }
 
+-- the field that each of the code's two names means
+abbrev pub field_of : OperandField → Field
+field_of AtB = B
+field_of AtC = C
+
 -- ---- the operand rules, each of an opcode
 
 -- "A is a register except in JMP, EQ, LT, LE"
@@ -284,3 +291,8 @@ decoded w =
       bx = field_bx w;
       sbx = field_sbx w;
     }
+
+-- the value of B, or of C, in a decoded word
+abbrev pub operand_in : OperandField → RawInstruction51 → ℕ
+operand_in AtB w = w.b
+operand_in AtC w = w.c

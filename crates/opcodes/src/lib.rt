@@ -1,16 +1,19 @@
 // Lua 5.1 opcodes and the split of an instruction word, after luad's opcodes.rs.
 #![tactic(auto)]
 
-ghost use Rattle.std.specs.Prelude.{◌≡◌};
-ghost use Rattle.opcodes.specs.Words.{B, C, a_is_register, constant_index, decoded, is_constant, is_fixed_register, is_rk, mode_of, opcode_of};
+ghost use Rattle.std.specs.Prelude.{◌≡◌, Option, Some};
+ghost use Rattle.opcodes.specs.Names.{mode_name, opcode_name};
+ghost use Rattle.opcodes.specs.Words.{a_is_register, constant_index, decoded, field_of, is_constant, is_fixed_register, is_rk, mode_of, opcode_of, operand_in};
 
 pub mod bytes;
+
+use std::fmt;
 
 // The bit that makes an RK operand a constant.
 pub const BITRK_51: u16 = 256;
 
 // All 38 official Lua 5.1 opcodes.
-#[derive(Clone, Copy)]
+#[derive(Debug, Clone, Copy, PartialEq, Eq)]
 pub enum Opcode51 {
     Move = 0,
     LoadK = 1,
@@ -53,14 +56,22 @@ pub enum Opcode51 {
 }
 
 // An opcode by its number: one of the 38, or the number as it stands, which in a decoded word is its six bits.
-#[derive(Clone, Copy)]
+// An enum of its own and no Result, as document 01 has it: known or unknown, held in the decoded word.
+#[derive(Debug, Clone, Copy, PartialEq, Eq)]
 pub enum OpcodeField {
     Known(Opcode51),
     Unknown(u8),
 }
 
+// The operand fields that have rules of one kind: specs/ has them as two values of its own `Field`.
+#[derive(Debug, Clone, Copy, PartialEq, Eq)]
+pub enum Field {
+    B,
+    C,
+}
+
 // Which operand fields a word has: A B C, A Bx or A sBx.
-#[derive(Clone, Copy)]
+#[derive(Debug, Clone, Copy, PartialEq, Eq)]
 pub enum OpMode51 {
     IABC,
     IABx,
@@ -68,7 +79,7 @@ pub enum OpMode51 {
 }
 
 // The fields of a 32-bit Lua 5.1 instruction word.
-#[derive(Clone, Copy)]
+#[derive(Debug, Clone, Copy, PartialEq, Eq)]
 pub struct RawInstruction51 {
     pub raw: u32,
     pub opcode_num: u8,
@@ -80,12 +91,12 @@ pub struct RawInstruction51 {
     pub sbx: i32,
 }
 
-impl Opcode51 {
-    // The opcode of a number, where it is known.
+// The opcode of a number, where it is known. A `match` and no table, since it compiles to a comparison with no load.
+impl From<u8> for OpcodeField {
+    ghost from_gives = { λ n o. o ≡ opcode_of n };
+
     #[tactic(auto, unfolding(crate::specs::Words::opcode_of, crate::specs::Words::opcodes, crate::specs::Words::opcode_at))]
-    pub fn from_u8(val: u8) -> OpcodeField
-        ensures { result ≡ opcode_of val }
-    {
+    fn from(val: u8) -> OpcodeField {
         match val {
             0 => OpcodeField::Known(Opcode51::Move),
             1 => OpcodeField::Known(Opcode51::LoadK),
@@ -128,6 +139,55 @@ impl Opcode51 {
             _ => OpcodeField::Unknown(val),
         }
     }
+}
+
+impl Opcode51 {
+    // Lua's name. It is had from the variant, and so shows which variant a word was decoded to.
+    #[tactic(auto, unfolding(crate::specs::Names::opcode_name))]
+    fn name(self) -> &'static str
+        ensures { result.now ≡ opcode_name self }
+    {
+        match self {
+            Opcode51::Move => "MOVE",
+            Opcode51::LoadK => "LOADK",
+            Opcode51::LoadBool => "LOADBOOL",
+            Opcode51::LoadNil => "LOADNIL",
+            Opcode51::GetUpval => "GETUPVAL",
+            Opcode51::GetGlobal => "GETGLOBAL",
+            Opcode51::GetTable => "GETTABLE",
+            Opcode51::SetGlobal => "SETGLOBAL",
+            Opcode51::SetUpval => "SETUPVAL",
+            Opcode51::SetTable => "SETTABLE",
+            Opcode51::NewTable => "NEWTABLE",
+            Opcode51::SelfOp => "SELF",
+            Opcode51::Add => "ADD",
+            Opcode51::Sub => "SUB",
+            Opcode51::Mul => "MUL",
+            Opcode51::Div => "DIV",
+            Opcode51::Mod => "MOD",
+            Opcode51::Pow => "POW",
+            Opcode51::Unm => "UNM",
+            Opcode51::Not => "NOT",
+            Opcode51::Len => "LEN",
+            Opcode51::Concat => "CONCAT",
+            Opcode51::Jmp => "JMP",
+            Opcode51::Eq => "EQ",
+            Opcode51::Lt => "LT",
+            Opcode51::Le => "LE",
+            Opcode51::Test => "TEST",
+            Opcode51::TestSet => "TESTSET",
+            Opcode51::Call => "CALL",
+            Opcode51::TailCall => "TAILCALL",
+            Opcode51::Return => "RETURN",
+            Opcode51::ForLoop => "FORLOOP",
+            Opcode51::ForPrep => "FORPREP",
+            Opcode51::TForLoop => "TFORLOOP",
+            Opcode51::SetList => "SETLIST",
+            Opcode51::Close => "CLOSE",
+            Opcode51::Closure => "CLOSURE",
+            Opcode51::VarArg => "VARARG",
+        }
+    }
 
     // Which operand fields the opcode has.
     #[tactic(auto, unfolding(crate::specs::Words::mode_of, crate::specs::Words::number_of))]
@@ -147,35 +207,38 @@ impl Opcode51 {
     pub fn a_is_register(self) -> bool
         ensures { result ≡ a_is_register self }
     {
-        match self {
-            Opcode51::Jmp | Opcode51::Eq | Opcode51::Lt | Opcode51::Le => false,
-            _ => true,
-        }
+        !matches!(
+            self,
+            Opcode51::Jmp | Opcode51::Eq | Opcode51::Lt | Opcode51::Le
+        )
     }
 
-    // Whether B always names a register.
-    #[tactic(auto, unfolding(crate::specs::Words::B, crate::specs::Words::is_fixed_register, crate::specs::Words::number_of))]
-    pub fn b_is_fixed_register(self) -> bool
-        ensures { result ≡ is_fixed_register B self }
+    // Whether B, or C, always names a register.
+    #[tactic(auto, unfolding(crate::specs::Words::B, crate::specs::Words::C, crate::specs::Words::is_fixed_register, crate::specs::Words::number_of))]
+    pub fn is_fixed_register(self, field: Field) -> bool
+        ensures { result ≡ is_fixed_register (field_of field) self }
     {
-        match self {
-            Opcode51::Move
-            | Opcode51::LoadNil
-            | Opcode51::GetTable
-            | Opcode51::SelfOp
-            | Opcode51::Unm
-            | Opcode51::Not
-            | Opcode51::Len
-            | Opcode51::Concat
-            | Opcode51::TestSet => true,
-            _ => false,
+        match field {
+            Field::B => matches!(
+                self,
+                Opcode51::Move
+                    | Opcode51::LoadNil
+                    | Opcode51::GetTable
+                    | Opcode51::SelfOp
+                    | Opcode51::Unm
+                    | Opcode51::Not
+                    | Opcode51::Len
+                    | Opcode51::Concat
+                    | Opcode51::TestSet
+            ),
+            Field::C => matches!(self, Opcode51::Concat),
         }
     }
 
-    // Whether B is an RK operand: a register or a constant.
-    #[tactic(auto, unfolding(crate::specs::Words::B, crate::specs::Words::is_rk, crate::specs::Words::number_of))]
-    pub fn b_is_rk(self) -> bool
-        ensures { result ≡ is_rk B self }
+    // Whether B, or C, is an RK operand, a register or a constant: C where B is, and in two opcodes more.
+    #[tactic(auto, unfolding(crate::specs::Words::B, crate::specs::Words::C, crate::specs::Words::is_rk, crate::specs::Words::number_of))]
+    pub fn is_rk(self, field: Field) -> bool
+        ensures { result ≡ is_rk (field_of field) self }
     {
         match self {
             Opcode51::SetTable
@@ -188,34 +251,46 @@ impl Opcode51 {
             | Opcode51::Eq
             | Opcode51::Lt
             | Opcode51::Le => true,
+            Opcode51::GetTable | Opcode51::SelfOp => field == Field::C,
             _ => false,
-        }
-    }
-
-    // Whether C always names a register.
-    #[tactic(auto, unfolding(crate::specs::Words::C, crate::specs::Words::is_fixed_register, crate::specs::Words::number_of))]
-    pub fn c_is_fixed_register(self) -> bool
-        ensures { result ≡ is_fixed_register C self }
-    {
-        match self {
-            Opcode51::Concat => true,
-            _ => false,
-        }
-    }
-
-    // Whether C is an RK operand: where B is, and in two opcodes more.
-    #[tactic(auto, unfolding(crate::specs::Words::B, crate::specs::Words::C, crate::specs::Words::is_rk, crate::specs::Words::number_of))]
-    pub fn c_is_rk(self) -> bool
-        ensures { result ≡ is_rk C self }
-    {
-        match self {
-            Opcode51::GetTable | Opcode51::SelfOp => true,
-            _ => self.b_is_rk(),
         }
     }
 }
 
+// Prints Lua's name.
+impl fmt::Display for Opcode51 {
+    ghost output = { λ o. Some (opcode_name o) };
+
+    fn fmt<W: fmt::Write>(&self, f: &mut fmt::Formatter<W>) -> fmt::Result {
+        f.pad(self.name())
+    }
+}
+
+impl OpMode51 {
+    // lopcodes.h's name.
+    #[tactic(auto, unfolding(crate::specs::Names::mode_name))]
+    fn name(self) -> &'static str
+        ensures { result.now ≡ mode_name self }
+    {
+        match self {
+            OpMode51::IABC => "iABC",
+            OpMode51::IABx => "iABx",
+            OpMode51::IAsBx => "iAsBx",
+        }
+    }
+}
+
+// Prints lopcodes.h's name.
+impl fmt::Display for OpMode51 {
+    ghost output = { λ m. Some (mode_name m) };
+
+    fn fmt<W: fmt::Write>(&self, f: &mut fmt::Formatter<W>) -> fmt::Result {
+        f.pad(self.name())
+    }
+}
+
 impl RawInstruction51 {
+    // What sBx is less than Bx.
     pub const OFFSET_SBX: i32 = 131071;
 
     // Splits a word. The field of n bits from bit k on is raw / 2^k % 2^n.
@@ -224,7 +299,7 @@ impl RawInstruction51 {
         ensures { result ≡ decoded raw }
     {
         let opcode_num = (raw % 0x40) as u8;
-        let opcode = Opcode51::from_u8(opcode_num);
+        let opcode = OpcodeField::from(opcode_num);
         let a = (raw / 0x40 % 0x100) as u8;
         let c = (raw / 0x4000 % 0x200) as u16;
         let b = (raw / 0x80_0000 % 0x200) as u16;
@@ -242,32 +317,28 @@ impl RawInstruction51 {
         }
     }
 
-    // Whether B names a constant in an RK operand.
-    pub fn is_b_k(self) -> bool
-        ensures { result ≡ is_constant self.b }
+    // The value of B, or of C.
+    pub fn operand(self, field: Field) -> u16
+        ensures { result ≡ operand_in field self }
     {
-        is_k(self.b)
+        match field {
+            Field::B => self.b,
+            Field::C => self.c,
+        }
     }
 
-    // Whether C names a constant in an RK operand.
-    pub fn is_c_k(self) -> bool
-        ensures { result ≡ is_constant self.c }
+    // Whether B, or C, names a constant in an RK operand.
+    pub fn is_k(self, field: Field) -> bool
+        ensures { result ≡ is_constant (operand_in field self) }
     {
-        is_k(self.c)
+        is_k(self.operand(field))
     }
 
-    // The index of the constant that B names, or B as it stands.
-    pub fn b_index_k(self) -> u16
-        ensures { result ≡ constant_index self.b }
+    // The index of the constant that B, or C, names, or its value as it stands.
+    pub fn index_k(self, field: Field) -> u16
+        ensures { result ≡ constant_index (operand_in field self) }
     {
-        index_k(self.b)
-    }
-
-    // The index of the constant that C names, or C as it stands.
-    pub fn c_index_k(self) -> u16
-        ensures { result ≡ constant_index self.c }
-    {
-        index_k(self.c)
+        index_k(self.operand(field))
     }
 }
 
@@ -284,9 +355,5 @@ pub fn is_k(value: u16) -> bool
 pub fn index_k(value: u16) -> u16
     ensures { result ≡ constant_index value }
 {
-    if BITRK_51 <= value {
-        value - BITRK_51
-    } else {
-        value
-    }
+    if is_k(value) { value - BITRK_51 } else { value }
 }

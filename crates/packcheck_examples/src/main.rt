@@ -1,9 +1,9 @@
 // Stored listings, by the names of their files as arguments: each name, and what packcheck writes for that input.
 #![tactic(auto)]
 
-use check_listing::check::{OUTPUT_LEN, check_listing};
-use input::read_full;
+use check_listing::run::run;
 use std::fs::File;
+use std::io::writer;
 use std::{env, io};
 
 fn main(rt: HostRuntime) -> io::Result<()> {
@@ -16,13 +16,5 @@ fn main(rt: HostRuntime) -> io::Result<()> {
 fn check_file(rt: &HostRuntime, name: &str) -> io::Result<()> {
     println!(rt; "{name}")?;
     let mut file = File::open(rt, name)?;
-    let mut input = [0u8; 65536];
-    let got = read_full(&mut file, &mut input);
-    print_check(rt, &input[..got])
-}
-
-fn print_check(rt: &impl Print, input: &[u8]) -> io::Result<()> {
-    let mut output = [0u8; OUTPUT_LEN];
-    let end = check_listing(input, &mut output);
-    rt.write_all(&output[..end])
+    run(&mut file, &mut writer(rt))
 }

@@ -1,5 +1,5 @@
 -- The bindings that a pass over a prototype's words makes: what is bound after each executable word and its companions. Assumes nothing.
-use Rattle.std.proofs.Common.{◌≡◌, ℕ, suc, ◌+◌, ◌-◌, ◌*◌, ◌/◌, ◌<◌, ◌≤◌, min, Bool, true, false, ◌⊎◌, List, [], ◌∷◌, ◌++◌, length, get_or, take, drop, sym, refl, ap, ◌∙◌, subst, ap₂, inl, inr, arith, length-take}
+use Rattle.std.proofs.Common.{◌≡◌, ℕ, suc, ◌+◌, ◌-◌, ◌*◌, ◌/◌, ◌≤◌, min, Bool, true, false, ◌⊎◌, List, [], ◌∷◌, ◌++◌, length, get_or, take, drop, sym, refl, ap, ◌∙◌, subst, ap₂, inl, inr, arith, length-take}
 use mathlib.Core.List.{flat_map, foldl-append, foldl-map}
 use mathlib.Core.Option.{Option, none, some}
 use Rattle.opcodes.specs.Lists.{up_from, tabulate}
@@ -9,7 +9,7 @@ use Rattle.chunk.specs.Table.{Row, row_bytes, row_at, rows, Proto, proto_of}
 use Rattle.chunk.specs.Roles.{Role, ClosureBinding, has_extra, word_at, executable_at, binding_count, existing, binding_words}
 use Rattle.chunk.specs.Bindings.{Write, binding_of, write_of, writes_at, writes, first_binding, binding_total, binding_bytes}
 use Rattle.roles.specs.Terms.{records_between, child_of_row, proto_in, records_before, owned_bindings, child_bindings, companions_of}
-use Rattle.roles.specs.BindingSteps.{bound_by, bound_from, bound_claim, RoomForAllOrNone, BindsFrom, Bindable, stored, bound_in}
+use Rattle.roles.specs.BindingSteps.{bound_by, bound_from, bound_claim, BindsFrom, Bindable, stored, bound_in}
 use Rattle.roles.specs.declared.discovery.Companions.{Companions}
 use Rattle.roles.specs.declared.discovery.Companions.TheVariants.{None, Extra}
 use Rattle.opcodes.proofs.ListLaws.{foldl_flat_map, foldl_same, length_tabulate}
@@ -155,7 +155,7 @@ module _ (table : List ℕ) (row : ℕ) (code : List ℕ) where
 
       closure_bindable : Bindable base k room cs
       unfolding records_before
-      closure_bindable = subst (Bindable base k room) (sym claim) (owned_bindable base k room upvalues (records_before table row named) (omega (arith, claimed)) (fits binds_from.fits))
+      closure_bindable = subst (Bindable base k room) (sym claim) (owned_bindable base k room upvalues (records_before table row named) (omega (arith, claimed)) (λ some. all named refl (binds_from.fits some)))
         where
           all : (c : Option Row) → named ≡ c → binding_bytes * binding_total (rows table) ≤ room → binding_bytes * (base + records_before table row c + upvalues) ≤ room
           all none e h = omega (arith, no_upvalues table row (field_bx w) e, binds_from.begins, records_front (rows table) (suc row))
@@ -163,10 +163,6 @@ module _ (table : List ℕ) (row : ℕ) (code : List ℕ) where
               let r = child_records table row (field_bx w) c e in
               let at : first_binding (rows table) c.row ≡ base + records_before table row (some c) = place c e in
               omega (arith, at, r.inside, r.upvalues)
-
-          fits : RoomForAllOrNone table room → (room < binding_bytes) ⊎ (binding_bytes * (base + records_before table row named + upvalues) ≤ room)
-          fits (inl less) = inl less
-          fits (inr enough) = inr (all named refl enough)
 
     -- another word binds nothing
     module _ (other : is w (CLOSURE ∷ []) ≡ false) where

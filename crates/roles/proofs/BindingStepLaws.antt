@@ -1,5 +1,5 @@
 -- The records of bindings that binding words set in a buffer: one, several, and those of an owner. Assumes nothing.
-use Rattle.std.proofs.Common.{◌≡◌, ℕ, zero, suc, ◌+◌, ◌*◌, ◌%◌, ◌<◌, ◌≤◌, ◌⊎◌, List, [], ◌∷◌, ◌++◌, length, get_or, take, drop, sym, refl, ap, ◌∙◌, subst, ap₂, inl, inr, zero-add, add-one, arith, length-drop, length-take-le}
+use Rattle.std.proofs.Common.{◌≡◌, ℕ, zero, suc, ◌+◌, ◌*◌, ◌%◌, ◌<◌, ◌≤◌, List, [], ◌∷◌, ◌++◌, length, get_or, take, drop, sym, refl, ap, ◌∙◌, subst, ap₂, zero-add, add-one, arith, length-drop, length-take-le}
 use mathlib.Core.List.{foldl}
 use Rattle.opcodes.specs.Lists.{only}
 use Rattle.opcodes.specs.Bytes.{i32_bits, u32_record, overwrite}
@@ -134,17 +134,16 @@ words_unfit words pc first (suc n) old h =
 
 -- ---- what an owner's companions bind
 
+-- companions that are no bindings bind nothing
+pub claim_other : (words old : List ℕ) (pc base count : ℕ) (cs : Companions) → ((n first : ℕ) → cs ≡ Bindings n first → ⊥) → old ≡ bound_claim words pc base count cs old
+unfolding bound_claim
+claim_other words old pc base count None f = refl
+claim_other words old pc base count (Bindings n first) f = absurd (f n first refl)
+claim_other words old pc base count Extra f = refl
+
 module _ (words old new : List ℕ) (pc base count : ℕ) (cs : Companions) where
   claim_is : (x : Companions) → cs ≡ x → new ≡ bound_claim words pc base count x old → new ≡ bound_claim words pc base count cs old
   claim_is x e d = d ∙ sym (ap (λ (y : Companions). bound_claim words pc base count y old) e)
-
-  pub claim_none : cs ≡ None → new ≡ old → new ≡ bound_claim words pc base count cs old
-  unfolding bound_claim
-  claim_none e d = claim_is None e d
-
-  pub claim_extra : cs ≡ Extra → new ≡ old → new ≡ bound_claim words pc base count cs old
-  unfolding bound_claim
-  claim_extra e d = claim_is Extra e d
 
   module _ (n first : ℕ) (e : cs ≡ Bindings n first) where
     pub claim_bound : new ≡ bound_from words (pc + 1) (base + first) count old → new ≡ bound_claim words pc base count cs old
@@ -162,7 +161,7 @@ owned_bound words old pc base count zero first h =
     bound_none words (pc + 1) (base + first) old ∙ ap (λ (k : ℕ). bound_from words (pc + 1) (base + first) k old) none
 owned_bound words old pc base count (suc n) first h = refl
 
-pub owned_bindable : (base count room n first : ℕ) → count ≤ n → (room < binding_bytes) ⊎ (binding_bytes * (base + first + n) ≤ room) → Bindable base count room (owned_bindings n first)
+pub owned_bindable : (base count room n first : ℕ) → count ≤ n → (binding_bytes ≤ room → binding_bytes * (base + first + n) ≤ room) → Bindable base count room (owned_bindings n first)
 unfolding Bindable owned_bindings
 owned_bindable base count room zero first h fits = tt
 owned_bindable base count room (suc n) first h fits = (h, fits)
@@ -170,8 +169,4 @@ owned_bindable base count room (suc n) first h fits = (h, fits)
 -- there is room for some records, and so for those of the child
 pub bindable_child : (base count room : ℕ) (cs : Companions) (n first : ℕ) → cs ≡ Bindings n first → binding_bytes ≤ room → Bindable base count room cs → (count ≤ n) × (binding_bytes * (base + first + n) ≤ room)
 unfolding Bindable
-bindable_child base count room cs n first e some h = let b = subst (Bindable base count room) e h in (b.0, go b.1)
-  where
-    go : (room < binding_bytes) ⊎ (binding_bytes * (base + first + n) ≤ room) → binding_bytes * (base + first + n) ≤ room
-    go (inl less) = absurd (omega arith)
-    go (inr fits) = fits
+bindable_child base count room cs n first e some h = let b = subst (Bindable base count room) e h in (b.0, b.1 some)

@@ -11,9 +11,8 @@ use Rattle.roles.specs.Terms.{refused_of, given_refusal, answer_of, field_total}
 use Rattle.roles.specs.BindingSteps.{max_bindings, bound_rows}
 use Rattle.roles.specs.declared.refusals.Refusal.{Refusal}
 use Rattle.roles.specs.declared.refusals.Refusal.TheVariants as refusal
-use Rattle.roles.specs.declared.refusals.Acceptance.{Acceptance}
-use Rattle.roles.specs.declared.refusals.Acceptance.TheVariants as acceptance
-use Rattle.roles.specs.declared.calls.Answer.TheVariants as answered
+use Rattle.std.specs.declared.result.Result.{Result}
+use Rattle.std.specs.declared.result.Result.TheVariants.{Ok, Err}
 use Rattle.chunk.proofs.UntouchedLaws.{refused_leaves, bindings_untouched}
 use Rattle.chunk.proofs.WriteLaws.{length_writes}
 use Rattle.roles.proofs.CountLaws.{record_fields}
@@ -35,9 +34,9 @@ length_image table words = length_bind_rows (rows table) (rows table) (u32s word
 
 -- ---- 1 to 7
 
-module _ (table words roleBuffer bindingBuffer : List ℕ) (a : Acceptance) (judged : given_refusal a ≡ roles_refusal table words (length roleBuffer)) where
-  pub refused_call : (r : Refusal) → a ≡ acceptance.Refused r
-      → (answer_of (answered.Refused r) ≡ bindings_answer table words (length roleBuffer) (length bindingBuffer))
+module _ {A : Type 0} (table words roleBuffer bindingBuffer : List ℕ) (a : Result A Refusal) (judged : given_refusal a ≡ roles_refusal table words (length roleBuffer)) where
+  pub refused_call : (r : Refusal) → a ≡ Err r
+      → (answer_of (Err r) ≡ bindings_answer table words (length roleBuffer) (length bindingBuffer))
       × ((roleBuffer ≡ roles_after table words roleBuffer) × (bindingBuffer ≡ bindings_after table words (length roleBuffer) bindingBuffer))
   unfolding answer_of bindings_answer bindings_refusal answer or_else
   refused_call r e =
@@ -53,10 +52,10 @@ pub record CallKept (table words : List ℕ) (role_length n : ℕ) : Type 0 wher
   pub count : n ≡ binding_total (rows table)
   pub few : n ≤ max_bindings
 
-pub call_kept : (table words : List ℕ) (role_length : ℕ) (a : Acceptance) → given_refusal a ≡ roles_refusal table words role_length → a ≡ acceptance.Accepted → (n : ℕ) → n ≡ field_total table 3
+pub call_kept : {A : Type 0} (table words : List ℕ) (role_length : ℕ) (a : Result A Refusal) (x : A) → given_refusal a ≡ roles_refusal table words role_length → a ≡ Ok x → (n : ℕ) → n ≡ field_total table 3
     → CallKept table words role_length n
-call_kept table words role_length a judged e n count =
-    let ok = not_refused table words role_length a judged e in
+call_kept table words role_length a x judged e n count =
+    let ok = not_refused table words role_length a x judged e in
     let same = count ∙ sym (record_fields table) in
     record { accepted = ok; count = same; few = omega (arith, same, few_records table words role_length ok) }
 
@@ -81,7 +80,7 @@ module _ (table words : List ℕ) (role_length : ℕ) (bindingBuffer : List ℕ)
       judged_by none (rw (le-ltb _ _ fits))
 
   pub short_call : length bindingBuffer / binding_bytes < n
-      → (answer_of (answered.Refused (refusal.BufferTooShort n)) ≡ bindings_answer table words role_length (length bindingBuffer)) × (bindingBuffer ≡ bindings_after table words role_length bindingBuffer)
+      → (answer_of (Err (refusal.BufferTooShort n)) ≡ bindings_answer table words role_length (length bindingBuffer)) × (bindingBuffer ≡ bindings_after table words role_length bindingBuffer)
   unfolding answer_of refused_of bindings_answer bindings_after answer refuse
   short_call h =
       let o = ap (λ (x : Option Refused). answer x (length (image_bindings table words))) (short h) in
@@ -90,7 +89,7 @@ module _ (table words : List ℕ) (role_length : ℕ) (bindingBuffer : List ℕ)
   -- the records that bind nothing are written first, and bound row by row
   pub accepted_call : (first new : List ℕ) → n ≤ length bindingBuffer / binding_bytes → first ≡ overwrite bindingBuffer 0 (binding_records (replicate n unbound))
       → new ≡ bound_rows table (u32s words) (length table / row_bytes) first
-      → (answer_of (answered.Records n) ≡ bindings_answer table words role_length (length bindingBuffer)) × (new ≡ bindings_after table words role_length bindingBuffer)
+      → (answer_of (Ok n) ≡ bindings_answer table words role_length (length bindingBuffer)) × (new ≡ bindings_after table words role_length bindingBuffer)
   unfolding answer_of bindings_answer bindings_after answer filled image_bindings
   accepted_call first new h d e = (
     ap (λ (k : ℕ). answer none k) image_count ∙ sym (ap (λ (x : Option Refused). answer x (length (image_bindings table words))) (enough h)),

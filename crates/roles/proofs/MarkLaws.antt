@@ -1,5 +1,5 @@
 -- The records that mark an executable word and its companions in a role buffer. Assumes nothing.
-use Rattle.std.proofs.Common.{◌≡◌, ℕ, zero, suc, ◌+◌, ◌-◌, ◌*◌, ◌<◌, ◌≤◌, List, [], ◌∷◌, ◌++◌, length, take, drop, sym, refl, ap, ◌∙◌, ap₂, add-zero, arith, length-take, take_all}
+use Rattle.std.proofs.Common.{◌≡◌, ℕ, zero, suc, ◌+◌, ◌-◌, ◌*◌, ◌/◌, ◌<◌, ◌≤◌, min, Bool, true, false, ltb, List, [], ◌∷◌, ◌++◌, length, take, drop, sym, refl, ap, ◌∙◌, ap₂, subst, add-zero, arith, length-drop, length-take, length-take-le, take_all, ltb-false, ltb-true}
 use mathlib.Core.List.{flat_map}
 use lib.Seq.{take-nil}
 use Rattle.opcodes.specs.Lists.{tabulate}
@@ -38,33 +38,59 @@ unfolding claimed_roles owned_bindings
 owned_roles pc zero first = refl
 owned_roles pc (suc n) first = refl
 
--- so many were marked
-abbrev pub Marked : List ℕ → List ℕ → ℕ → ℕ → Companions → ℕ → Type 0
-Marked old new pc room cs n =
-    (n ≡ length (take room (claimed_roles pc cs))) × ((new ≡ overwrite old (role_bytes * (pc + 1)) (records_of (take room (claimed_roles pc cs)))) × (n ≤ room))
+-- so many were marked, from byte `at` on
+abbrev pub Marked : List ℕ → List ℕ → ℕ → ℕ → ℕ → Companions → ℕ → Type 0
+Marked old new at pc room cs n =
+    (n ≡ length (take room (claimed_roles pc cs))) × ((new ≡ overwrite old at (records_of (take room (claimed_roles pc cs)))) × (n ≤ room))
 
-module _ (old new : List ℕ) (pc room : ℕ) (cs : Companions) where
-  these : (rs : List Role) (n : ℕ) → take room (claimed_roles pc cs) ≡ rs → n ≡ length rs → new ≡ overwrite old (role_bytes * (pc + 1)) (records_of rs) → Marked old new pc room cs n
-  these rs n e l d = (l ∙ ap length (sym e), (d ∙ ap (λ (x : List Role). overwrite old (role_bytes * (pc + 1)) (records_of x)) (sym e), omega (arith, ap length e, length-take room (claimed_roles pc cs))))
+module _ (old new : List ℕ) (at pc room : ℕ) (cs : Companions) where
+  these : (rs : List Role) (n : ℕ) → take room (claimed_roles pc cs) ≡ rs → n ≡ length rs → new ≡ overwrite old at (records_of rs) → Marked old new at pc room cs n
+  these rs n e l d = (l ∙ ap length (sym e), (d ∙ ap (λ (x : List Role). overwrite old at (records_of x)) (sym e), omega (arith, ap length e, length-take room (claimed_roles pc cs))))
 
-  pub marked_none : cs ≡ None → new ≡ old → Marked old new pc room cs 0
+  pub marked_none : cs ≡ None → new ≡ old → Marked old new at pc room cs 0
   unfolding claimed_roles
-  marked_none e d = these [] 0 (ap (λ (x : Companions). take room (claimed_roles pc x)) e ∙ take-nil room) refl (d ∙ records_none old (role_bytes * (pc + 1)))
+  marked_none e d = these [] 0 (ap (λ (x : Companions). take room (claimed_roles pc x)) e ∙ take-nil room) refl (d ∙ records_none old at)
 
-  pub marked_few : (n o r : ℕ) → cs ≡ Bindings n o → n < room → r ≡ n → new ≡ overwrite old (role_bytes * (pc + 1)) (records_of (tabulate n (ClosureBinding pc))) → Marked old new pc room cs r
+  -- as many binding words as there is room for
+  few : (n k : ℕ) → k ≡ min room n → take room (tabulate n (ClosureBinding pc)) ≡ tabulate k (ClosureBinding pc)
+  few n k e = go (ltb n room) refl
+    where
+      f : ℕ → Role
+      f = ClosureBinding pc
+
+      go : (b : Bool) → ltb n room ≡ b → take room (tabulate n f) ≡ tabulate k f
+      go true t =
+          let less = ltb-true n room t in
+          let all : n ≡ k = omega arith in
+          take_all room (tabulate n f) (omega (arith, length_tabulate f n)) ∙ ap (λ (m : ℕ). tabulate m f) all
+      go false t =
+          let more = ltb-false n room t in
+          let all : room ≡ k = omega arith in
+          take_tabulate f room n more ∙ ap (λ (m : ℕ). tabulate m f) all
+
+  pub marked_bindings : (n o k : ℕ) → cs ≡ Bindings n o → k ≡ min room n → new ≡ overwrite old at (records_of (tabulate k (ClosureBinding pc))) → Marked old new at pc room cs k
   unfolding claimed_roles
-  marked_few n o r e h c d =
-      let f = ClosureBinding pc in
-      these (tabulate n f) r (ap (λ (x : Companions). take room (claimed_roles pc x)) e ∙ take_all room (tabulate n f) (omega (arith, length_tabulate f n))) (c ∙ sym (length_tabulate f n)) d
+  marked_bindings n o k e m d =
+      these (tabulate k (ClosureBinding pc)) k (ap (λ (x : Companions). take room (claimed_roles pc x)) e ∙ few n k m) (sym (length_tabulate (ClosureBinding pc) k)) d
 
-  pub marked_all : (n o r : ℕ) → cs ≡ Bindings n o → room ≤ n → r ≡ room → new ≡ overwrite old (role_bytes * (pc + 1)) (records_of (tabulate room (ClosureBinding pc))) → Marked old new pc room cs r
-  unfolding claimed_roles
-  marked_all n o r e h c d =
-      let f = ClosureBinding pc in
-      these (tabulate room f) r (ap (λ (x : Companions). take room (claimed_roles pc x)) e ∙ take_tabulate f room n h) (c ∙ sym (length_tabulate f room)) d
-
-  pub marked_extra : (n : ℕ) → cs ≡ Extra → n ≡ length (take room (claimed_roles pc Extra)) → new ≡ overwrite old (role_bytes * (pc + 1)) (records_of (take room (claimed_roles pc Extra))) → Marked old new pc room cs n
+  pub marked_extra : (n : ℕ) → cs ≡ Extra → n ≡ length (take room (claimed_roles pc Extra)) → new ≡ overwrite old at (records_of (take room (claimed_roles pc Extra))) → Marked old new at pc room cs n
   marked_extra n e l d = these (take room (claimed_roles pc Extra)) n (ap (λ (x : Companions). take room (claimed_roles pc x)) e) l d
+
+-- in the records after the owner's, of n
+pub marked_part : (old part : List ℕ) (pc n k : ℕ) (cs : Companions) (size : ℕ) → pc < n → role_bytes * n ≤ length old → size ≡ role_bytes * n - role_bytes * (pc + 1)
+    → Marked (take size (drop (role_bytes * (pc + 1)) old)) part 0 pc (length (take size (drop (role_bytes * (pc + 1)) old)) / role_bytes) cs k
+    → Marked old (take (role_bytes * (pc + 1)) old ++ (part ++ drop size (drop (role_bytes * (pc + 1)) old))) (role_bytes * (pc + 1)) pc (n - pc - 1) cs k
+marked_part old part pc n k cs size there room e d =
+    let at = role_bytes * (pc + 1) in
+    let long : length (take size (drop at old)) ≡ size = length-take-le size (drop at old) (omega (arith, length-drop at old)) in
+    let few : length (take size (drop at old)) / role_bytes ≡ n - pc - 1 = omega arith in
+    let mine = take (n - pc - 1) (claimed_roles pc cs) in
+    let these : Marked (take size (drop at old)) part 0 pc (n - pc - 1) cs k = subst (λ (r : ℕ). Marked (take size (drop at old)) part 0 pc r cs k) few d in
+    let pasted : take at old ++ (part ++ drop size (drop at old)) ≡ overwrite old at (records_of mine) =
+    ap (λ (l : List ℕ). take at old ++ (l ++ drop size (drop at old))) these.1.0
+    ∙ paste old at size 0 (records_of mine) (omega (arith, length_records mine, length-take (n - pc - 1) (claimed_roles pc cs))) (omega (arith, length-drop at old))
+    ∙ ap (λ (x : ℕ). overwrite old x (records_of mine)) (add-zero at) in
+    (these.0, (pasted, these.1.1))
 
 -- ---- an executable word, and the companions that exist among n words
 
@@ -72,7 +98,7 @@ unfoldable pub existing_roles : ℕ → ℕ → Companions → List Role
 existing_roles n pc cs = take (n - pc - 1) (claimed_roles pc cs)
 
 pub owner_marked : (old m new : List ℕ) (pc n k : ℕ) (cs : Companions) → pc < n → role_bytes * n ≤ length old → m ≡ overwrite old (role_bytes * pc) (records_of (Instruction ∷ []))
-    → Marked m new pc (n - pc - 1) cs k → (k ≡ length (existing_roles n pc cs)) × ((new ≡ overwrite old (role_bytes * pc) (records_of (Instruction ∷ existing_roles n pc cs))) × (k < n - pc))
+    → Marked m new (role_bytes * (pc + 1)) pc (n - pc - 1) cs k → (k ≡ length (existing_roles n pc cs)) × ((new ≡ overwrite old (role_bytes * pc) (records_of (Instruction ∷ existing_roles n pc cs))) × (k < n - pc))
 unfolding existing_roles
 owner_marked old m new pc n k cs there room e d =
     let mine = take (n - pc - 1) (claimed_roles pc cs) in

@@ -12,7 +12,7 @@ use Rattle.opcodes.proofs.ByteLaws.{length_u32s, get_d_u32s, length_overwrite}
 use Rattle.chunk.proofs.RoleLaws.{role_executable, executable, owned_count, past_claims, no_both}
 use Rattle.chunk.proofs.RoleBufferLaws.{length_roles}
 use Rattle.chunk.proofs.RoleRecordLaws.{records_none, records_next}
-use Rattle.roles.proofs.MarkLaws.{owned_roles, Marked, existing_roles, owner_marked}
+use Rattle.roles.proofs.MarkLaws.{owned_roles, Marked, existing_roles, marked_part, owner_marked}
 
 -- ---- a list from index k on, by its front
 
@@ -154,8 +154,13 @@ module _ (table : List ℕ) (row : ℕ) (code : List ℕ) (stated : (row_at tabl
             );
           }
 
-      -- the word was read, its role and those of its companions were marked
-      pub owner_step : (m new : List ℕ) (k : ℕ) → m ≡ overwrite out (role_bytes * pc) (records_of (Instruction ∷ [])) → Marked m new pc (length code / 4 - pc - 1) cs k → OwnerStep table row code pc w k cs out new
-      owner_step m new k first marks =
-          let marked = owner_marked out m new pc (length code / 4) k cs there (omega (arith, v.long)) first marks in
+      -- the word was read, its role and those of its companions were marked, these in the part of the buffer after its own
+      pub owner_step : (m part : List ℕ) (k size : ℕ) → m ≡ overwrite out (role_bytes * pc) (records_of (Instruction ∷ [])) → size ≡ role_bytes * (length code / 4) - role_bytes * (pc + 1)
+          → Marked (take size (drop (role_bytes * (pc + 1)) m)) part 0 pc (length (take size (drop (role_bytes * (pc + 1)) m)) / role_bytes) cs k
+          → OwnerStep table row code pc w k cs out (take (role_bytes * (pc + 1)) m ++ (part ++ drop size (drop (role_bytes * (pc + 1)) m)))
+      owner_step m part k size first e marks =
+          let n = length code / 4 in
+          let long : length m ≡ length out = ap length first ∙ length_overwrite out (role_bytes * pc) _ in
+          let after = marked_part m part pc n k cs size there (omega (arith, v.long)) e marks in
+          let marked = owner_marked out m _ pc n k cs there (omega (arith, v.long)) first after in
           record { owned = owns; size = marked.0; most = marked.1.1; written = marked.1.0; here = owner_here k marked.0 }

@@ -6,28 +6,27 @@ use Rattle.chunk.specs.Refusals.{Refused, max_rows, word_total, roles_refusal}
 use Rattle.chunk.specs.Calls.{answer, roles_answer, roles_after}
 use Rattle.roles.specs.Terms.{refused_of, given_refusal, answer_of}
 use Rattle.roles.specs.declared.refusals.Refusal.{Refusal}
-use Rattle.roles.specs.declared.refusals.Acceptance.{Acceptance}
-use Rattle.roles.specs.declared.refusals.Acceptance.TheVariants as acceptance
-use Rattle.roles.specs.declared.calls.Answer.TheVariants as answered
+use Rattle.std.specs.declared.result.Result.{Result}
+use Rattle.std.specs.declared.result.Result.TheVariants.{Ok, Err}
 use Rattle.chunk.proofs.TableLaws.{length_rows}
 use Rattle.chunk.proofs.RefusalLaws.{ImageKept, roles_kept}
 use Rattle.chunk.proofs.UntouchedLaws.{roles_untouched}
 
-module _ (table words roleBuffer : List ℕ) (a : Acceptance) (judged : given_refusal a ≡ roles_refusal table words (length roleBuffer)) where
-  pub refused_by : (r : Refusal) → a ≡ acceptance.Refused r → some (refused_of r) ≡ roles_refusal table words (length roleBuffer)
+module _ {A : Type 0} (table words roleBuffer : List ℕ) (a : Result A Refusal) (judged : given_refusal a ≡ roles_refusal table words (length roleBuffer)) where
+  pub refused_by : (r : Refusal) → a ≡ Err r → some (refused_of r) ≡ roles_refusal table words (length roleBuffer)
   unfolding given_refusal
   refused_by r e = sym (ap given_refusal e) ∙ judged
 
   -- a refused call answers so and writes nothing
-  pub refused_call : (r : Refusal) → a ≡ acceptance.Refused r → (answer_of (answered.Refused r) ≡ roles_answer table words (length roleBuffer)) × (roleBuffer ≡ roles_after table words roleBuffer)
+  pub refused_call : (r : Refusal) → a ≡ Err r → (answer_of (Err r) ≡ roles_answer table words (length roleBuffer)) × (roleBuffer ≡ roles_after table words roleBuffer)
   unfolding answer_of roles_answer answer
   refused_call r e =
       let o = ap (λ (x : Option Refused). answer x (word_total (rows table))) (refused_by r e) in
       (o, sym (roles_untouched table words roleBuffer (refused_of r) (sym o)))
 
-pub not_refused : (table words : List ℕ) (room : ℕ) (a : Acceptance) → given_refusal a ≡ roles_refusal table words room → a ≡ acceptance.Accepted → roles_refusal table words room ≡ none
+pub not_refused : {A : Type 0} (table words : List ℕ) (room : ℕ) (a : Result A Refusal) (x : A) → given_refusal a ≡ roles_refusal table words room → a ≡ Ok x → roles_refusal table words room ≡ none
 unfolding given_refusal
-not_refused table words room a judged e = sym judged ∙ ap given_refusal e
+not_refused table words room a x judged e = sym judged ∙ ap given_refusal e
 
 module _ (table words : List ℕ) (room : ℕ) (accepted : roles_refusal table words room ≡ none) where
   kept : ImageKept table words
@@ -40,7 +39,7 @@ module _ (table words : List ℕ) (room : ℕ) (accepted : roles_refusal table w
   few_words = omega (arith, kept.word_limit)
 
   -- an accepted call answers the number of words
-  pub accepted_call : answer_of (answered.Records (length words / 4)) ≡ roles_answer table words room
+  pub accepted_call : answer_of (Ok (length words / 4)) ≡ roles_answer table words room
   unfolding answer_of roles_answer answer
   accepted_call =
       let count : length words / 4 ≡ word_total (rows table) = omega (arith, kept.word_count) in

@@ -1,13 +1,14 @@
 -- The search for a child over the rows of a table, one at a time, and where it can be resumed. Assumes nothing.
-use Rattle.std.proofs.Common.{◌≡◌, ℕ, suc, ◌+◌, ◌-◌, ◌*◌, ◌/◌, ◌%◌, ◌^◌, ◌<◌, ◌≤◌, Bool, true, false, eqb, ltb, List, [], length, get_or, drop, set, sym, refl, ap, ◌∙◌, ap₂, add-zero, zero-add, add-one, arith, length-set, get_or-set_other, get_or-set_same, ltb-false, ltb-true, eqb-true}
+use Rattle.std.proofs.Common.{◌≡◌, ℕ, suc, ◌+◌, ◌-◌, ◌/◌, ◌%◌, ◌^◌, ◌<◌, ◌≤◌, Bool, true, false, eqb, ltb, List, [], length, get_or, drop, set, sym, refl, ap, ◌∙◌, ap₂, add-zero, zero-add, add-one, arith, length-set, get_or-set_other, get_or-set_same, ltb-false, ltb-true, eqb-true}
 use mathlib.Core.Option.{Option, none, some}
 use lib.ListN.{get_or-eq_default}
 use borrow.Author.Tests.{eqb-false}
 use Rattle.chunk.specs.Table.{Row, row_bytes, field_at, row_at, rows, children, child_at}
-use Rattle.roles.specs.Terms.{records_between, child_from, child_of_row, in_index, RoomForChildren, Tracks, proto_in, records_before, owned_bindings, child_bindings}
+use Rattle.std.specs.declared.option.Option.{Option as Maybe}
+use Rattle.std.specs.declared.option.Option.TheVariants as maybe
+use Rattle.roles.specs.Terms.{records_between, child_from, child_of_row, found_at, in_index, RoomForChildren, Tracks, proto_in, records_before, owned_bindings, child_bindings}
 use Rattle.roles.specs.declared.table.Child.{Child}
-use Rattle.roles.specs.declared.table.Child.TheVariants as child
-use Rattle.roles.specs.declared.search.Cursor.{Cursor}
+use Rattle.roles.specs.declared.search.Entry.{Entry}
 use Rattle.roles.specs.declared.discovery.Companions.TheVariants.{None}
 use Rattle.chunk.proofs.TableLaws.{child_upvalues, child_missing, element_missing}
 use Rattle.chunk.proofs.ChildLaws.{element_past_end, too_few, row_end, row_found, row_next, row_deeper, found}
@@ -15,14 +16,18 @@ use Rattle.roles.proofs.CountLaws.{none_between, between_join, between_one, wrap
 
 -- ---- a child as the code has it, with the place of its first binding record
 
-abbrev pub search : List ℕ → ℕ → ℕ → ℕ → ℕ → Child
+-- a child in row r, whose first binding record has index n
+abbrev pub child_at_row : ℕ → ℕ → Maybe Child
+child_at_row n r = maybe.Some (record { first = n; row = r })
+
+abbrev pub search : List ℕ → ℕ → ℕ → ℕ → ℕ → Maybe Child
 search table at d k first = child_from table at first (child_at d (drop at (rows table)) k)
 
-pub find_few : (table : List ℕ) (at d k first : ℕ) → length table / row_bytes - at ≤ k → child.Missing ≡ search table at d k first
+pub find_few : (table : List ℕ) (at d k first : ℕ) → length table / row_bytes - at ≤ k → maybe.None ≡ search table at d k first
 unfolding child_from
 find_few table at d k first h = sym (ap (child_from table at first) (too_few table at d k (omega arith)))
 
-pub find_none : (table : List ℕ) (at d k first : ℕ) → length table / row_bytes ≤ at → child.Missing ≡ search table at d k first
+pub find_none : (table : List ℕ) (at d k first : ℕ) → length table / row_bytes ≤ at → maybe.None ≡ search table at d k first
 find_none table at d k first h = find_few table at d k first (omega arith)
 
 -- from a later row, where the records of the rows between are counted in
@@ -39,22 +44,22 @@ from_later table d i j k first next h e = go (child_at d (drop j (rows table)) k
         ap (λ (n : ℕ). (n + records_between table j c.row) % 2 ^ 32) e
         ∙ wrapped (first + records_between table i j) (records_between table j c.row)
         ∙ ap (λ (n : ℕ). n % 2 ^ 32) (omega arith) in
-        ap (λ (n : ℕ). child.Row n c.row) same
+        ap (λ (n : ℕ). child_at_row n c.row) same
 
 module _ (table : List ℕ) (at d k first x : ℕ) (there : at < length table / row_bytes) (depth : x ≡ field_at table at 0) where
   here : (row_at table at).depth ≡ x
   unfolding row_at
   here = sym depth
 
-  pub find_end : x ≤ d → child.Missing ≡ search table at d k first
+  pub find_end : x ≤ d → maybe.None ≡ search table at d k first
   unfolding child_from
   find_end h = sym (ap (child_from table at first) (row_end table at d there k (omega (arith, here))))
 
-  pub find_found : first < 2 ^ 32 → x ≡ suc d → k ≡ 0 → child.Row first at ≡ search table at d k first
+  pub find_found : first < 2 ^ 32 → x ≡ suc d → k ≡ 0 → child_at_row first at ≡ search table at d k first
   unfolding child_from row_at
   find_found small h e =
       let place : first ≡ (first + records_between table at at) % 2 ^ 32 = omega (arith, none_between table at at (omega arith)) in
-      ap (λ (n : ℕ). child.Row n at) place
+      ap (λ (n : ℕ). child_at_row n at) place
       ∙ sym (ap (λ (n : ℕ). search table at d n first) e ∙ ap (child_from table at first) (row_found table at d there (here ∙ h)))
 
   module _ (u next : ℕ) (own : u ≡ field_at table at 3) (e : next ≡ (first + u) % 2 ^ 32) where
@@ -95,13 +100,19 @@ one_deeper table d at k c e =
 
 -- ---- the first child
 
-not_found : (table : List ℕ) (at first : ℕ) (o : Option Row) → child.Missing ≡ child_from table at first o → o ≡ none
+not_found : (table : List ℕ) (at first : ℕ) (o : Option Row) → maybe.None ≡ child_from table at first o → o ≡ none
 unfolding child_from
 not_found table at first none e = refl
 not_found table at first (some c) e = let z : ◌≡◌ {A = ℕ} 0 1 = cc in absurd (omega arith)
 
+-- a child is told by its row and its first record
+same_child : (n r m s : ℕ) → child_at_row n r ≡ child_at_row m s → (r ≡ s) × (n ≡ m)
+same_child n r m s e =
+    let same : ◌≡◌ {A = Child} (record { first = n; row = r }) (record { first = m; row = s }) = cc in
+    (ap (λ (c : Child). c.row) same, ap (λ (c : Child). c.first) same)
+
 -- where there is no first child, there is none
-pub first_missing : (table : List ℕ) (at d k first : ℕ) → child.Missing ≡ search table at d 0 first → child.Missing ≡ search table at d k first
+pub first_missing : (table : List ℕ) (at d k first : ℕ) → maybe.None ≡ search table at d 0 first → maybe.None ≡ search table at d k first
 unfolding child_from child_at
 first_missing table at d k first e =
     let all = children d (drop at (rows table)) in
@@ -113,15 +124,16 @@ pub record FirstChild (table : List ℕ) (at d first r n : ℕ) : Type 0 where
   pub after : at ≤ r
   pub next : (k u m : ℕ) → u ≡ field_at table r 3 → m ≡ (n + u) % 2 ^ 32 → (k ≡ 0 → ⊥) → search table (r + 1) d (k - 1) m ≡ search table at d k first
 
-pub first_child : (table : List ℕ) (at d first r n : ℕ) → child.Row n r ≡ search table at d 0 first → FirstChild table at d first r n
+pub first_child : (table : List ℕ) (at d first r n : ℕ) → child_at_row n r ≡ search table at d 0 first → FirstChild table at d first r n
 unfolding child_from row_at
 first_child table at d first r n e = go (child_at d (drop at (rows table)) 0) refl e
   where
-    go : (o : Option Row) → child_at d (drop at (rows table)) 0 ≡ o → child.Row n r ≡ child_from table at first o → FirstChild table at d first r n
+    go : (o : Option Row) → child_at d (drop at (rows table)) 0 ≡ o → child_at_row n r ≡ child_from table at first o → FirstChild table at d first r n
     go none f e = let z : ◌≡◌ {A = ℕ} 0 1 = cc in absurd (omega arith)
     go (some c) f e =
-        let number : c.row ≡ r = cc in
-        let place : n ≡ (first + records_between table at c.row) % 2 ^ 32 = cc in
+        let same = same_child n r ((first + records_between table at c.row) % 2 ^ 32) c.row e in
+        let number : c.row ≡ r = sym same.0 in
+        let place : n ≡ (first + records_between table at c.row) % 2 ^ 32 = same.1 in
         let v = found (length table / row_bytes) table d at 0 c (omega arith) f in
         let deep : field_at table r 0 ≡ suc d = ap (λ (i : ℕ). field_at table i 0) (sym number) ∙ one_deeper table d at 0 c f in
         let after : at ≤ r = omega (arith, v.after) in
@@ -136,29 +148,17 @@ first_child table at d first r n e = go (child_at d (drop at (rows table)) 0) re
 
 -- ---- a child more in the index
 
-abbrev pub with_child : List ℕ → ℕ → ℕ → ℕ → List ℕ
-with_child index n row first = set (set index (2 * n) row) (2 * n + 1) first
+module _ (index : List Entry) (n : ℕ) (e : Entry) (room : n < length index) where
+  index_new : in_index (set index n e) n ≡ found_at e
+  index_new = ap found_at (get_or-set_same index n e (record { row = 0; first = 0 }) room)
 
-module _ (index : List ℕ) (n row first : ℕ) (room : 2 * n + 1 < length index) where
-  index_long : length (with_child index n row first) ≡ length index
-  index_long = length-set (set index (2 * n) row) (2 * n + 1) first ∙ length-set index (2 * n) row
-
-  index_new : in_index (with_child index n row first) n ≡ child.Row first row
-  index_new =
-      ap₂ child.Row
-      (get_or-set_same (set index (2 * n) row) (2 * n + 1) first 0 (omega (arith, length-set index (2 * n) row)))
-      (get_or-set_other (set index (2 * n) row) (2 * n + 1) (2 * n) first 0 (λ e. omega arith) ∙ get_or-set_same index (2 * n) row 0 (omega arith))
-
-  index_old : (i : ℕ) → i < n → in_index (with_child index n row first) i ≡ in_index index i
-  index_old i h =
-      ap₂ child.Row
-      (get_or-set_other (set index (2 * n) row) (2 * n + 1) (2 * i + 1) first 0 (λ e. omega arith) ∙ get_or-set_other index (2 * n) (2 * i + 1) row 0 (λ e. omega arith))
-      (get_or-set_other (set index (2 * n) row) (2 * n + 1) (2 * i) first 0 (λ e. omega arith) ∙ get_or-set_other index (2 * n) (2 * i) row 0 (λ e. omega arith))
+  index_old : (i : ℕ) → i < n → in_index (set index n e) i ≡ in_index index i
+  index_old i h = ap found_at (get_or-set_other index n i e (record { row = 0; first = 0 }) (λ e. omega arith))
 
 -- ---- the children of the prototype in a row
 
 module _ (table : List ℕ) (parent : ℕ) where
-  abbrev child_of : ℕ → Child
+  abbrev child_of : ℕ → Maybe Child
   child_of k = child_from table (suc parent) 0 (child_of_row table parent k)
 
   -- child k stands in row r, and so many binding records before its own
@@ -170,15 +170,16 @@ module _ (table : List ℕ) (parent : ℕ) where
     pub upvalues : get_or (proto_in table parent []).children k 0 ≡ field_at table r 3
     pub resumes : (j : ℕ) → child_of_row table parent (k + 1 + j) ≡ child_at (row_at table parent).depth (drop (r + 1) (rows table)) j
 
-  pub found_child : (k r first : ℕ) → child.Row first r ≡ child_of k → FoundChild k r first
+  pub found_child : (k r first : ℕ) → child_at_row first r ≡ child_of k → FoundChild k r first
   unfolding child_from child_of_row proto_in row_at records_before
   found_child k r first e = go (child_of_row table parent k) refl e
     where
-      go : (o : Option Row) → child_of_row table parent k ≡ o → child.Row first r ≡ child_from table (suc parent) 0 o → FoundChild k r first
+      go : (o : Option Row) → child_of_row table parent k ≡ o → child_at_row first r ≡ child_from table (suc parent) 0 o → FoundChild k r first
       go none f e = let z : ◌≡◌ {A = ℕ} 0 1 = cc in absurd (omega arith)
       go (some c) f e =
-          let number : c.row ≡ r = cc in
-          let place : first ≡ (0 + records_between table (suc parent) c.row) % 2 ^ 32 = cc in
+          let same = same_child first r ((0 + records_between table (suc parent) c.row) % 2 ^ 32) c.row e in
+          let number : c.row ≡ r = sym same.0 in
+          let place : first ≡ (0 + records_between table (suc parent) c.row) % 2 ^ 32 = same.1 in
           let count : first ≡ records_between table (suc parent) c.row % 2 ^ 32 = place ∙ ap (λ (n : ℕ). n % 2 ^ 32) (zero-add (records_between table (suc parent) c.row)) in
           let d = (row_at table parent).depth in
           let v = found (length table / row_bytes) table d (suc parent) k c (omega arith) f in
@@ -197,7 +198,7 @@ module _ (table : List ℕ) (parent : ℕ) where
                 ∙ ap (λ (n : ℕ). child_at d (drop n (rows table)) j) past;
           }
 
-  pub missing : (k : ℕ) → child.Missing ≡ child_of k → child_of_row table parent k ≡ none
+  pub missing : (k : ℕ) → maybe.None ≡ child_of k → child_of_row table parent k ≡ none
   missing k e = not_found table (suc parent) 0 (child_of_row table parent k) e
 
   -- a missing child has no upvalues
@@ -205,20 +206,20 @@ module _ (table : List ℕ) (parent : ℕ) where
   unfolding child_of_row proto_in
   no_upvalues k e = get_or-eq_default (proto_in table parent []).children 0 (child_missing (row_at table parent) (drop (suc parent) (rows table)) [] k e)
 
-  pub missing_child : (k : ℕ) → child.Missing ≡ child_of k → None ≡ child_bindings table parent k
+  pub missing_child : (k : ℕ) → maybe.None ≡ child_of k → None ≡ child_bindings table parent k
   unfolding child_bindings owned_bindings
   missing_child k e = sym (ap (λ (n : ℕ). owned_bindings n (records_before table parent (child_of_row table parent k))) (no_upvalues k (missing k e)))
 
   -- a search that begins right after the row finds its children
-  pub anew : (k d : ℕ) (c : Child) → d ≡ field_at table parent 0 → c ≡ search table (parent + 1) d k 0 → c ≡ child_of k
+  pub anew : (k d : ℕ) (c : Maybe Child) → d ≡ field_at table parent 0 → c ≡ search table (parent + 1) d k 0 → c ≡ child_of k
   unfolding child_of_row row_at
   anew k d c e f = f ∙ rw (e, add-one)
 
-  -- ---- the cursor
+  -- ---- what is known of them
 
-  module _ (index : List ℕ) where
+  module _ (index : List Entry) where
     -- the search begins right after the row
-    pub begins : (n : ℕ) → n ≡ length table / row_bytes → RoomForChildren table index → Tracks table parent index (record { known = 0; row = parent + 1; first = 0; end = n })
+    pub begins : (n : ℕ) → n ≡ length table / row_bytes → RoomForChildren table index → Tracks table parent index 0 (parent + 1) 0 n
     unfolding child_of_row
     begins n e room =
         record {
@@ -232,24 +233,24 @@ module _ (table : List ℕ) (parent : ℕ) where
           ends = λ k h. too_few table (suc parent) (row_at table parent).depth k (omega arith);
         }
 
-    module _ (u : Cursor) (v : Tracks table parent index u) where
+    module _ (known row first end : ℕ) (v : Tracks table parent index known row first end) where
       -- past the end
-      pub past_end : (k : ℕ) → u.end ≤ k → child.Missing ≡ child_of k
+      pub past_end : (k : ℕ) → end ≤ k → maybe.None ≡ child_of k
       unfolding child_from
       past_end k h = sym (ap (child_from table (suc parent) 0) (v.ends k h))
 
-      -- the next child is the first from the cursor's row on
-      pub next_child : (d : ℕ) (c : Child) → d ≡ field_at table parent 0 → c ≡ search table u.row d 0 u.first → c ≡ child_of u.known
+      -- the next child is the first from that row on
+      pub next_child : (d : ℕ) (c : Maybe Child) → d ≡ field_at table parent 0 → c ≡ search table row d 0 first → c ≡ child_of known
       unfolding row_at
       next_child d c e f =
-          let place : u.first ≡ (0 + records_between table (suc parent) u.row) % 2 ^ 32 = v.counts ∙ ap (λ (n : ℕ). n % 2 ^ 32) (sym (zero-add (records_between table (suc parent) u.row))) in
+          let place : first ≡ (0 + records_between table (suc parent) row) % 2 ^ 32 = v.counts ∙ ap (λ (n : ℕ). n % 2 ^ 32) (sym (zero-add (records_between table (suc parent) row))) in
           f
-          ∙ ap (λ (n : ℕ). search table u.row n 0 u.first) e
-          ∙ from_later table (row_at table parent).depth (suc parent) u.row 0 0 u.first v.later place
-          ∙ sym (ap (child_from table (suc parent) 0) (ap (child_of_row table parent) (sym (add-zero u.known)) ∙ v.resumes 0))
+          ∙ ap (λ (n : ℕ). search table row n 0 first) e
+          ∙ from_later table (row_at table parent).depth (suc parent) row 0 0 first v.later place
+          ∙ sym (ap (child_from table (suc parent) 0) (ap (child_of_row table parent) (sym (add-zero known)) ∙ v.resumes 0))
 
       -- it was missing
-      pub missed : child.Missing ≡ child_of u.known → Tracks table parent index (record { known = u.known; row = u.row; first = u.first; end = u.known })
+      pub missed : maybe.None ≡ child_of known → Tracks table parent index known row first known
       unfolding child_of_row child_at
       missed e =
           let all = children (row_at table parent).depth (drop (suc parent) (rows table)) in
@@ -261,20 +262,21 @@ module _ (table : List ℕ) (parent : ℕ) where
             later = v.later;
             counts = v.counts;
             resumes = v.resumes;
-            ends = λ j h. element_past_end all j (omega (arith, element_missing all u.known (missing u.known e)));
+            ends = λ j h. element_past_end all j (omega (arith, element_missing all known (missing known e)));
           }
 
       -- it was found, and is in the index
-      pub met : u.known < u.end → (r first x next : ℕ) → child.Row first r ≡ child_of u.known → x ≡ field_at table r 3 → next ≡ (first + x) % 2 ^ 32
-          → Tracks table parent (with_child index u.known r first) (record { known = u.known + 1; row = r + 1; first = next; end = u.end })
-      met h r first x next e own sum =
-          let f = found_child u.known r first e in
-          let room : 2 * u.known + 1 < length index = omega (arith, v.few, v.room) in
+      pub met : known < end → (r n x next : ℕ) → child_at_row n r ≡ child_of known → x ≡ field_at table r 3 → next ≡ (n + x) % 2 ^ 32
+          → Tracks table parent (set index known (record { row = r; first = n })) (known + 1) (r + 1) next end
+      met h r n x next e own sum =
+          let f = found_child known r n e in
+          let new : Entry = record { row = r; first = n } in
+          let room : known < length index = omega (arith, v.few, v.room) in
           record {
-            room = omega (arith, v.room, index_long index u.known r first room);
+            room = omega (arith, v.room, length-set index known new);
             within = omega arith;
             few = v.few;
-            indexed = λ i l. go room i (ltb i u.known) refl l;
+            indexed = λ i l. go room i (ltb i known) refl l;
             later = omega (arith, f.later);
             counts =
                 sum
@@ -285,8 +287,8 @@ module _ (table : List ℕ) (parent : ℕ) where
             ends = v.ends;
           }
         where
-          go : 2 * u.known + 1 < length index → (i : ℕ) (b : Bool) → ltb i u.known ≡ b → i < u.known + 1 → in_index (with_child index u.known r first) i ≡ child_of i
-          go room i true t l = let k = ltb-true i u.known t in index_old index u.known r first room i k ∙ v.indexed i k
+          go : known < length index → (i : ℕ) (b : Bool) → ltb i known ≡ b → i < known + 1 → in_index (set index known (record { row = r; first = n })) i ≡ child_of i
+          go room i true t l = let k = ltb-true i known t in index_old index known (record { row = r; first = n }) room i k ∙ v.indexed i k
           go room i false t l =
-              let same : i ≡ u.known = omega (arith, ltb-false i u.known t) in
-              ap (in_index (with_child index u.known r first)) same ∙ index_new index u.known r first room ∙ e ∙ sym (ap child_of same)
+              let same : i ≡ known = omega (arith, ltb-false i known t) in
+              ap (in_index (set index known (record { row = r; first = n }))) same ∙ index_new index known (record { row = r; first = n }) room ∙ e ∙ sym (ap child_of same)

@@ -1,6 +1,6 @@
 -- What a bindings buffer holds after each step of the code that fills it, and what that code needs: the terms of inner contracts. The calls' own
 -- contracts cite none of them. Assumes nothing: these are definitions.
-use Rattle.std.specs.Prelude.{◌≡◌, ℕ, suc, ◌+◌, ◌*◌, ◌<◌, ◌≤◌, ◌⊎◌, List, [], ◌∷◌, take, drop, slice_index}
+use Rattle.std.specs.Prelude.{◌≡◌, ℕ, suc, ◌+◌, ◌*◌, ◌≤◌, List, [], ◌∷◌, take, drop, slice_index}
 use mathlib.Core.List.{foldl}
 use Rattle.std.proofs.Math.Option.{Option, none, some}
 use Rattle.opcodes.specs.Lists.{up_from}
@@ -58,9 +58,9 @@ bound_rows table words n out = foldl (bound_row table words) out (up_from 0 n)
 abbrev pub max_bindings : ℕ
 max_bindings = 4177920
 
--- a buffer of so many bytes has room for all records of the table, or for none
+-- a buffer of so many bytes has room for all records of the table, or for none: room for one is room for all
 abbrev pub RoomForAllOrNone : List ℕ → ℕ → Type 0
-RoomForAllOrNone table room = (room < binding_bytes) ⊎ (binding_bytes * binding_total (rows table) ≤ room)
+RoomForAllOrNone table room = binding_bytes ≤ room → binding_bytes * binding_total (rows table) ≤ room
 
 -- the children of a row can be bound in a buffer of so many bytes, where `base` is the index of the first record after the row's own
 pub record BindsFrom (table : List ℕ) (row base room : ℕ) : Type 0 where
@@ -71,5 +71,5 @@ pub record BindsFrom (table : List ℕ) (row base room : ℕ) : Type 0 where
 -- so many companions of an owner can set their records in it
 unfoldable pub Bindable : ℕ → ℕ → ℕ → Companions → Type 0
 Bindable base count room None = Unit {0}
-Bindable base count room (Bindings n first) = (count ≤ n) × ((room < binding_bytes) ⊎ (binding_bytes * (base + first + n) ≤ room))
+Bindable base count room (Bindings n first) = (count ≤ n) × (binding_bytes ≤ room → binding_bytes * (base + first + n) ≤ room)
 Bindable base count room Extra = Unit {0}

@@ -1,6 +1,10 @@
 -- What the code's own types stand for: the terms in which its contracts cite the other definitions. Assumes nothing: these are definitions.
 use Rattle.std.specs.Prelude.{◌≡◌, ℕ, zero, suc, ◌+◌, ◌*◌, ◌/◌, ◌%◌, ◌^◌, ◌<◌, ◌≤◌, cond, List, [], ◌∷◌, length, drop, pos, ◌==◌, nat_lt, slice_index, slice_index_or, slice_range}
 use Rattle.std.proofs.Math.Option.{Option, none, some}
+use Rattle.std.specs.declared.option.Option.{Option as Maybe}
+use Rattle.std.specs.declared.option.Option.TheVariants as maybe
+use Rattle.std.specs.declared.result.Result.{Result}
+use Rattle.std.specs.declared.result.Result.TheVariants.{Ok, Err}
 use Rattle.opcodes.specs.Bytes.{u32_at, i32_bits}
 use Rattle.opcodes.specs.Lists.{tabulate, total}
 use Rattle.opcodes.specs.Words.{is, field_bx, CLOSURE}
@@ -11,13 +15,10 @@ use Rattle.chunk.specs.Refusals.{Refused}
 use Rattle.chunk.specs.Calls.{Answer, refused, accepted}
 use Rattle.roles.specs.declared.refusals.Refusal.{Refusal}
 use Rattle.roles.specs.declared.refusals.Refusal.TheVariants as refusal
-use Rattle.roles.specs.declared.refusals.Acceptance.{Acceptance}
-use Rattle.roles.specs.declared.refusals.Acceptance.TheVariants as acceptance
-use Rattle.roles.specs.declared.calls.Answer.{Answer as Answered}
-use Rattle.roles.specs.declared.calls.Answer.TheVariants as answered
 use Rattle.roles.specs.declared.table.Child.{Child}
-use Rattle.roles.specs.declared.table.Child.TheVariants as child
-use Rattle.roles.specs.declared.search.Cursor.{Cursor}
+use Rattle.roles.specs.declared.table.Column.{Column}
+use Rattle.roles.specs.declared.table.Column.TheVariants as column
+use Rattle.roles.specs.declared.search.Entry.{Entry}
 use Rattle.roles.specs.declared.discovery.Companions.{Companions}
 use Rattle.roles.specs.declared.discovery.Companions.TheVariants.{None, Bindings, Extra}
 use Rattle.roles.specs.declared.role.Lua51PhysicalRole.{Lua51PhysicalRole}
@@ -37,14 +38,24 @@ refused_of refusal.RoleBufferTooShort = record { number = 7; figure = 0 }
 refused_of (refusal.BufferTooShort records) = record { number = 8; figure = records }
 
 -- the refusal that it stands for, if any
-unfoldable pub given_refusal : Acceptance → Option Refused
-given_refusal (acceptance.Refused r) = some (refused_of r)
-given_refusal acceptance.Accepted = none
+unfoldable pub given_refusal : {A : Type 0} → Result A Refusal → Option Refused
+given_refusal (Err r) = some (refused_of r)
+given_refusal (Ok a) = none
 
 -- a call's answer
-unfoldable pub answer_of : Answered → Answer ℕ
-answer_of (answered.Refused r) = refused (refused_of r)
-answer_of (answered.Records n) = accepted n
+unfoldable pub answer_of : Result ℕ Refusal → Answer ℕ
+answer_of (Err r) = refused (refused_of r)
+answer_of (Ok n) = accepted n
+
+-- ---- fields
+
+-- the number of a field in document 01's order
+abbrev pub column_index : Column → ℕ
+column_index column.Depth = 0
+column_index column.Words = 1
+column_index column.Constants = 2
+column_index column.Upvalues = 3
+column_index column.Stack = 4
 
 -- field k of all rows, added up
 unfoldable pub field_total : List ℕ → ℕ → ℕ
@@ -58,34 +69,38 @@ records_between table i j = binding_total (slice_range (rows table) i j)
 
 -- where a child was found: the index of its first binding record, if that of row `at` has index `first`, and its row. The code counts records
 -- modulo 2 ^ 32
-unfoldable pub child_from : List ℕ → ℕ → ℕ → Option Row → Child
-child_from table at first none = child.Missing
-child_from table at first (some r) = child.Row ((first + records_between table at r.row) % 2 ^ 32) r.row
+unfoldable pub child_from : List ℕ → ℕ → ℕ → Option Row → Maybe Child
+child_from table at first none = maybe.None
+child_from table at first (some r) = maybe.Some (record { first = (first + records_between table at r.row) % 2 ^ 32; row = r.row })
 
 -- child k of the prototype in row `parent`
 unfoldable pub child_of_row : List ℕ → ℕ → ℕ → Option Row
 child_of_row table parent k = child_at (row_at table parent).depth (drop (suc parent) (rows table)) k
 
--- child i in an index, which has two numbers for each: its row and the index of its first binding record
-abbrev pub in_index : List ℕ → ℕ → Child
-in_index index i = child.Row (slice_index index (2 * i + 1)) (slice_index index (2 * i))
+-- the child that an entry of an index is
+abbrev pub found_at : Entry → Maybe Child
+found_at e = maybe.Some (record { first = e.first; row = e.row })
+
+-- child i in an index, which has an entry for each: its row and the index of its first binding record
+abbrev pub in_index : List Entry → ℕ → Maybe Child
+in_index index i = found_at (slice_index_or index i (record { row = 0; first = 0 }))
 
 -- it has room for as many children as there are rows
-abbrev pub RoomForChildren : List ℕ → List ℕ → Type 0
-RoomForChildren table index = 2 * (length table / row_bytes) ≤ length index
+abbrev pub RoomForChildren : List ℕ → List Entry → Type 0
+RoomForChildren table index = length table / row_bytes ≤ length index
 
--- what a cursor knows of the prototype in row `parent`: its first children stand in the index, as many as the cursor says; from the cursor's row
--- on, its children are counted from that number; the cursor's `first` is how many binding records stand between the prototype's own and those of
--- that row, modulo 2 ^ 32; from its `end` on there are no children
-pub record Tracks (table : List ℕ) (parent : ℕ) (index : List ℕ) (c : Cursor) : Type 0 where
+-- what is known of the children of the prototype in row `parent`: the first `known` of them stand in the index; from row `row` on, its children
+-- are counted from that number; `first` is how many binding records stand between the prototype's own and those of that row, modulo 2 ^ 32; from
+-- `end` on there are no children
+pub record Tracks (table : List ℕ) (parent : ℕ) (index : List Entry) (known row first end : ℕ) : Type 0 where
   pub room : RoomForChildren table index
-  pub within : c.known ≤ c.end
-  pub few : c.end ≤ length table / row_bytes
-  pub indexed : (i : ℕ) → i < c.known → in_index index i ≡ child_from table (suc parent) 0 (child_of_row table parent i)
-  pub later : parent < c.row
-  pub counts : c.first ≡ records_between table (suc parent) c.row % 2 ^ 32
-  pub resumes : (k : ℕ) → child_of_row table parent (c.known + k) ≡ child_at (row_at table parent).depth (drop c.row (rows table)) k
-  pub ends : (k : ℕ) → c.end ≤ k → child_of_row table parent k ≡ none
+  pub within : known ≤ end
+  pub few : end ≤ length table / row_bytes
+  pub indexed : (i : ℕ) → i < known → in_index index i ≡ child_from table (suc parent) 0 (child_of_row table parent i)
+  pub later : parent < row
+  pub counts : first ≡ records_between table (suc parent) row % 2 ^ 32
+  pub resumes : (k : ℕ) → child_of_row table parent (known + k) ≡ child_at (row_at table parent).depth (drop row (rows table)) k
+  pub ends : (k : ℕ) → end ≤ k → child_of_row table parent k ≡ none
 
 -- ---- companions
 
@@ -124,6 +139,12 @@ abbrev pub role_of : Lua51PhysicalRole → Role
 role_of physical.Instruction = Instruction
 role_of (physical.ClosureBinding owner index) = ClosureBinding owner index
 role_of (physical.SetlistExtra owner) = SetlistExtra owner
+
+-- the pc of its owner, where it is a companion's
+abbrev pub companion_pc : Role → Maybe ℕ
+companion_pc Instruction = maybe.None
+companion_pc (ClosureBinding owner index) = maybe.Some owner
+companion_pc (SetlistExtra owner) = maybe.Some owner
 
 -- the bits of its first field
 unfoldable pub owner_field : Role → ℕ

@@ -4,6 +4,8 @@
 mod bindings;
 pub mod calls;
 mod discovery;
+mod fill;
+mod filling;
 pub mod refusals;
 pub mod role;
 mod search;

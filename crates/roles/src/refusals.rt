@@ -1,11 +1,11 @@
 // Refusals 1 to 7, the least number first. Nothing is written before they are excluded. Refusal 8 is for the calls to give.
 ghost use Rattle.std.specs.Prelude.{◌≡◌, ◌+◌, ◌*◌, ◌/◌, ◌^◌, ◌<◌, ◌≤◌, ◌||◌, length, nat_lt};
 ghost use Rattle.chunk.specs.Refusals.{bad_depth, bad_field, depth_fits, fields_fit, image_refusal, max_rows, max_word_bytes, roles_refusal};
-ghost use Rattle.chunk.specs.Table.{row_at, row_bytes, row_fields, rows};
-ghost use Rattle.roles.specs.Terms.{field_total, given_refusal};
+ghost use Rattle.chunk.specs.Table.{row_at, row_bytes, rows};
+ghost use Rattle.roles.specs.Terms.{column_index, field_total, given_refusal, refused_of};
 
 use crate::role::ROLE_BYTES;
-use crate::table::{CONSTANTS, DEPTH, ROW_BYTES, STACK, UPVALUES, WORDS, field};
+use crate::table::{Column, ROW_BYTES, Row};
 
 pub const MAX_PROTOS: usize = 16384;
 
@@ -20,7 +20,7 @@ pub const MAX_UPVALUES: u32 = 255;
 pub const MAX_STACK: u32 = 255;
 
 // Why a call is refused. BadDepth and FieldOverLimit have the first such row, BufferTooShort the number of records needed.
-#[derive(Clone, Copy)]
+#[derive(Clone, Copy, PartialEq, Eq, Debug)]
 pub enum Refusal {
     NoProtos,
     PartialRow,
@@ -32,140 +32,142 @@ pub enum Refusal {
     BufferTooShort(u32),
 }
 
-// The refusal that applies, or none.
-#[derive(Clone, Copy)]
-pub enum Acceptance {
-    Refused(Refusal),
-    Accepted,
+impl Refusal {
+    // Its number, 1 to 8.
+    #[tactic(auto, unfolding(crate::specs::Terms::refused_of))]
+    pub fn number(self) -> u8
+        ensures { result ≡ (refused_of self).number }
+    {
+        match self {
+            Refusal::NoProtos => 1,
+            Refusal::PartialRow => 2,
+            Refusal::TooLarge => 3,
+            Refusal::BadDepth(_) => 4,
+            Refusal::FieldOverLimit(_) => 5,
+            Refusal::WordCountMismatch => 6,
+            Refusal::RoleBufferTooShort => 7,
+            Refusal::BufferTooShort(_) => 8,
+        }
+    }
+
+    // Its figure: the row, the number of records needed, or 0.
+    #[tactic(auto, unfolding(crate::specs::Terms::refused_of))]
+    pub fn figure(self) -> u32
+        ensures { result ≡ (refused_of self).figure }
+    {
+        match self {
+            Refusal::BadDepth(figure)
+            | Refusal::FieldOverLimit(figure)
+            | Refusal::BufferTooShort(figure) => figure,
+            _ => 0,
+        }
+    }
 }
 
 // 1 to 7, for a role buffer of so many bytes.
 #[tactic(auto, unfolding(chunk::specs::Refusals::roles_refusal, chunk::specs::Refusals::or_else, crate::specs::Terms::given_refusal))]
-pub fn check_roles(protos: &[u8], words: &[u8], room: usize) -> Acceptance
+pub fn check_roles(protos: &[u8], words: &[u8], room: usize) -> Result<(), Refusal>
     ensures { given_refusal result ≡ roles_refusal protos.now words.now room }
 {
-    if let Acceptance::Refused(refusal) = check_image(protos, words) {
-        return Acceptance::Refused(refusal);
-    }
+    check_image(protos, words)?;
     if room / ROLE_BYTES < words.len() / 4 {
-        return Acceptance::Refused(Refusal::RoleBufferTooShort);
+        return Err(Refusal::RoleBufferTooShort);
     }
-    Acceptance::Accepted
+    Ok(())
 }
 
 // 1 to 6.
 #[tactic(auto, using(crate::proofs::ImageCheckLaws::image_counts), unfolding(chunk::specs::Refusals::image_refusal, chunk::specs::Refusals::or_else, chunk::specs::Refusals::refuse_if, chunk::specs::Refusals::refuse, crate::specs::Terms::given_refusal, crate::specs::Terms::refused_of))]
-pub fn check_image(protos: &[u8], words: &[u8]) -> Acceptance
+pub fn check_image(protos: &[u8], words: &[u8]) -> Result<(), Refusal>
     ensures { given_refusal result ≡ image_refusal protos.now words.now }
 {
     if protos.len() == 0 {
-        return Acceptance::Refused(Refusal::NoProtos);
+        return Err(Refusal::NoProtos);
     }
     if protos.len() % ROW_BYTES != 0 {
-        return Acceptance::Refused(Refusal::PartialRow);
+        return Err(Refusal::PartialRow);
     }
     if is_too_large(protos.len() / ROW_BYTES, words.len()) {
-        return Acceptance::Refused(Refusal::TooLarge);
+        return Err(Refusal::TooLarge);
     }
-    if let Acceptance::Refused(refusal) = check_depths(protos) {
-        return Acceptance::Refused(refusal);
+    check_depths(protos)?;
+    check_fields(protos)?;
+    if words.len() as u64 != 4 * field_total(protos, Column::Words) {
+        return Err(Refusal::WordCountMismatch);
     }
-    if let Acceptance::Refused(refusal) = check_fields(protos) {
-        return Acceptance::Refused(refusal);
-    }
-    if words.len() as u64 != 4 * field_total(protos, WORDS) {
-        return Acceptance::Refused(Refusal::WordCountMismatch);
-    }
-    Acceptance::Accepted
+    Ok(())
 }
 
+// 3, by so many rows or so many bytes of words.
 fn is_too_large(rows: usize, bytes: usize) -> bool
     ensures { result ≡ nat_lt max_rows rows || nat_lt max_word_bytes bytes }
 {
-    if MAX_PROTOS < rows {
-        return true;
-    }
-    MAX_WORD_BYTES < bytes
+    MAX_PROTOS < rows || MAX_WORD_BYTES < bytes
 }
 
-// 4: every depth in its bounds.
-fn check_depths(protos: &[u8]) -> Acceptance
+// 4: every depth in its bounds. (That the rows are few stands at three functions here, and no type of a table has it: such a type would be only
+// theirs. `Row` and `find_child` serve tables of any length, and the search has the fact as a ghost field.)
+#[tactic(auto, using(chunk::proofs::RowCheckLaws::depths_end, chunk::proofs::RowCheckLaws::depth_refused, chunk::proofs::RowCheckLaws::depth_low, chunk::proofs::RowCheckLaws::depth_next), unfolding(chunk::specs::Refusals::refuse, crate::specs::Terms::refused_of, crate::specs::Terms::given_refusal))]
+fn check_depths(protos: &[u8]) -> Result<(), Refusal>
     requires { length protos.now / row_bytes ≤ max_rows }
     ensures { given_refusal result ≡ bad_depth 0 0 (rows protos.now) }
 {
-    let rows = protos.len() / ROW_BYTES;
     let mut least = 0;
     let mut most = 0;
-    let mut row = 0;
-    while row < rows {
-        if !depth_fits(protos, row, least, most) {
-            return Acceptance::Refused(Refusal::BadDepth(row as u32));
+    for number in 0..protos.len() / ROW_BYTES {
+        let row = Row { protos, number };
+        if !depth_fits(&row, least, most) {
+            return Err(Refusal::BadDepth(number as u32));
         }
         least = 1;
-        most = field(protos, row, DEPTH) + 1;
-        row += 1;
+        most = row.field(Column::Depth) + 1;
     }
-    Acceptance::Accepted
+    Ok(())
 }
 
 // A row's depth is from `least` to `most`, and within the limit.
 #[tactic(auto, unfolding(chunk::specs::Refusals::depth_fits, chunk::specs::Table::row_at))]
-fn depth_fits(protos: &[u8], row: usize, least: u32, most: u32) -> bool
-    requires { row_bytes * row + row_bytes ≤ length protos.now }
-    ensures { result ≡ depth_fits least most (row_at protos.now row) }
+fn depth_fits(row: &Row, least: u32, most: u32) -> bool
+    ensures { result ≡ depth_fits least most (row_at row.now.protos.now row.now.number) }
 {
-    let depth = field(protos, row, DEPTH);
-    if depth < least {
-        return false;
-    }
-    if most < depth {
-        return false;
-    }
-    depth <= MAX_DEPTH
+    let depth = row.field(Column::Depth);
+    least <= depth && depth <= most && depth <= MAX_DEPTH
 }
 
 // 5: constants, upvalues and stack of every row within their limits.
-fn check_fields(protos: &[u8]) -> Acceptance
+#[tactic(auto, using(chunk::proofs::RowCheckLaws::fields_end, chunk::proofs::RowCheckLaws::field_refused, chunk::proofs::RowCheckLaws::field_next), unfolding(chunk::specs::Refusals::refuse, crate::specs::Terms::refused_of, crate::specs::Terms::given_refusal))]
+fn check_fields(protos: &[u8]) -> Result<(), Refusal>
     requires { length protos.now / row_bytes ≤ max_rows }
     ensures { given_refusal result ≡ bad_field (rows protos.now) }
 {
-    let rows = protos.len() / ROW_BYTES;
-    let mut row = 0;
-    while row < rows {
-        if !fields_fit(protos, row) {
-            return Acceptance::Refused(Refusal::FieldOverLimit(row as u32));
+    for number in 0..protos.len() / ROW_BYTES {
+        if !fields_fit(&Row { protos, number }) {
+            return Err(Refusal::FieldOverLimit(number as u32));
         }
-        row += 1;
     }
-    Acceptance::Accepted
+    Ok(())
 }
 
+// A row's constants, upvalues and stack are within their limits.
 #[tactic(auto, unfolding(chunk::specs::Refusals::fields_fit, chunk::specs::Table::row_at))]
-fn fields_fit(protos: &[u8], row: usize) -> bool
-    requires { row_bytes * row + row_bytes ≤ length protos.now }
-    ensures { result ≡ fields_fit (row_at protos.now row) }
+fn fields_fit(row: &Row) -> bool
+    ensures { result ≡ fields_fit (row_at row.now.protos.now row.now.number) }
 {
-    if MAX_CONSTANTS < field(protos, row, CONSTANTS) {
-        return false;
-    }
-    if MAX_UPVALUES < field(protos, row, UPVALUES) {
-        return false;
-    }
-    field(protos, row, STACK) <= MAX_STACK
+    row.field(Column::Constants) <= MAX_CONSTANTS
+        && row.field(Column::Upvalues) <= MAX_UPVALUES
+        && row.field(Column::Stack) <= MAX_STACK
 }
 
 // The sum of a field over the rows. Each is less than 2^32, so that it fits.
-pub(crate) fn field_total(protos: &[u8], k: usize) -> u64
-    requires { (length protos.now / row_bytes ≤ max_rows) × (k < row_fields) }
-    ensures value { result ≡ field_total protos.now k }
+#[tactic(auto, using(crate::proofs::CountLaws::total_ends, crate::proofs::CountLaws::total_next))]
+pub(crate) fn field_total(protos: &[u8], column: Column) -> u64
+    requires { length protos.now / row_bytes ≤ max_rows }
+    ensures value { result ≡ field_total protos.now (column_index column) }
     ensures upper_bound { result ≤ 2 ^ 46 }
 {
-    let rows = protos.len() / ROW_BYTES;
     let mut total: u64 = 0;
-    let mut row = 0;
-    while row < rows {
-        total += field(protos, row, k) as u64;
-        row += 1;
+    for number in 0..protos.len() / ROW_BYTES {
+        total += Row { protos, number }.field(column) as u64;
     }
     total
 }

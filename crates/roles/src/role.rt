@@ -1,16 +1,13 @@
-// The role of a word, and its record in a role buffer: two i32, owner pc and upvalue index.
+// The role of a word, and its record in a role buffer: two i32, owner pc and upvalue index, -1 for one that there is not.
 ghost use Rattle.std.specs.Prelude.{◌≡◌, ◌+◌, ◌*◌, ◌≤◌, [], ◌∷◌, length};
 ghost use Rattle.opcodes.specs.Bytes.{overwrite};
-ghost use Rattle.chunk.specs.Roles.{records_of, role_bytes};
-ghost use Rattle.roles.specs.Terms.{index_field, owner_field, role_in, role_of};
+ghost use Rattle.chunk.specs.Roles.{is_executable, records_of, role_bytes};
+ghost use Rattle.roles.specs.Terms.{companion_pc, index_field, owner_field, role_in, role_of};
 
-use opcodes::bytes::{read_u32, write_record};
+use opcodes::bytes::{MINUS_ONE, read_u32, write_record};
 
 // The length of a record in bytes.
 pub const ROLE_BYTES: usize = 8;
-
-// The bits of -1: no owner, no index; of a binding, no pc.
-pub(crate) const NONE: u32 = 0xffff_ffff;
 
 // An executable word; a CLOSURE's binding word, with its pc and the upvalue's index; a SETLIST's extra word, with its pc.
 #[derive(Clone, Copy)]
@@ -21,16 +18,30 @@ pub enum Lua51PhysicalRole {
 }
 
 impl Lua51PhysicalRole {
+    // Whether the word is executable.
+    pub fn is_executable(self) -> bool
+        ensures { result ≡ is_executable (role_of self) }
+    {
+        matches!(self, Lua51PhysicalRole::Instruction)
+    }
+
+    // The pc of a companion's owner.
+    pub fn companion_pc(self) -> Option<u32>
+        ensures { result ≡ companion_pc (role_of self) }
+    {
+        match self {
+            Lua51PhysicalRole::Instruction => None,
+            Lua51PhysicalRole::ClosureBinding(owner, _) | Lua51PhysicalRole::SetlistExtra(owner) =>
+                Some(owner),
+        }
+    }
+
     // The bits of the owner's pc.
     #[tactic(auto, unfolding(crate::specs::Terms::owner_field, chunk::specs::Roles::role_fields, opcodes::specs::Bytes::i32_bits))]
     fn owner(self) -> u32
         ensures { result ≡ owner_field (role_of self) }
     {
-        match self {
-            Lua51PhysicalRole::Instruction => NONE,
-            Lua51PhysicalRole::ClosureBinding(owner, _) => owner,
-            Lua51PhysicalRole::SetlistExtra(owner) => owner,
-        }
+        self.companion_pc().unwrap_or(MINUS_ONE)
     }
 
     // The bits of the upvalue's index.
@@ -39,9 +50,8 @@ impl Lua51PhysicalRole {
         ensures { result ≡ index_field (role_of self) }
     {
         match self {
-            Lua51PhysicalRole::Instruction => NONE,
             Lua51PhysicalRole::ClosureBinding(_, index) => index,
-            Lua51PhysicalRole::SetlistExtra(_) => NONE,
+            Lua51PhysicalRole::Instruction | Lua51PhysicalRole::SetlistExtra(_) => MINUS_ONE,
         }
     }
 }
@@ -55,17 +65,18 @@ pub fn role_at(roles: &[u8], pc: usize) -> Lua51PhysicalRole
         return Lua51PhysicalRole::Instruction;
     }
     let owner = read_u32(roles, ROLE_BYTES * pc);
-    if owner == NONE {
+    if owner == MINUS_ONE {
         return Lua51PhysicalRole::Instruction;
     }
     let index = read_u32(roles, ROLE_BYTES * pc + 4);
-    if index == NONE {
+    if index == MINUS_ONE {
         return Lua51PhysicalRole::SetlistExtra(owner);
     }
     Lua51PhysicalRole::ClosureBinding(owner, index)
 }
 
 // Writes the record of the word at pc.
+#[tactic(auto, using(crate::proofs::MarkLaws::record_pasted))]
 pub(crate) fn write_role(roles: &mut [u8], pc: usize, role: Lua51PhysicalRole)
     requires { role_bytes * pc + role_bytes ≤ length roles.old }
     ensures { roles.new ≡ overwrite roles.old (role_bytes * pc) (records_of (role_of role ∷ [])) }

@@ -1,79 +1,92 @@
 // The search for the children of a prototype. Those that were found stand in an index, and the search goes on after the last of them, so that
 // all searches of a prototype together pass the rows below it once, in whatever order its children are named.
-ghost use Rattle.std.specs.Prelude.{◌≡◌, suc, ◌+◌, ◌-◌, ◌*◌, ◌/◌, ◌<◌, ◌≤◌, length};
+ghost use Rattle.std.specs.Prelude.{◌≡◌, suc, ◌-◌, ◌/◌, ◌<◌, ◌≤◌, length};
 ghost use Rattle.chunk.specs.Refusals.{max_rows};
 ghost use Rattle.chunk.specs.Table.{row_bytes};
-ghost use Rattle.roles.specs.Terms.{Tracks, child_from, child_of_row};
+ghost use Rattle.roles.specs.Terms.{RoomForChildren, Tracks, child_from, child_of_row};
 
-use crate::table::{Child, DEPTH, UPVALUES, field, find_child};
-use std::num::wrapping_add_u32;
+use crate::table::{Child, Column, ROW_BYTES, Row, find_child};
 
-// The first `known` children of the prototype stand in the index, each by its row and the index of its first binding record. The others are the
-// children from row `row` on, and `first` binding records stand between the prototype's own and those of that row. There is no child of number
-// `end` or above.
+// A child in the index: its row and the index of its first binding record. 8 bytes, and no `Child` of 16: the index stands on the stack, and
+// has up to 16,384 entries.
 #[derive(Clone, Copy)]
-pub struct Cursor {
-    pub known: u32,
-    pub row: usize,
+pub(crate) struct Entry {
+    pub row: u32,
     pub first: u32,
-    pub end: u32,
 }
 
-// A child, and the cursor after the search for it.
-#[derive(Clone, Copy)]
-pub struct Found {
-    pub child: Child,
-    pub cursor: Cursor,
+// The children of the prototype in a row, as far as they were searched for. The first `known` of them stand in the index. The others are the
+// children from row `row` on, and `first` binding records stand between the prototype's own and those of that row. There is no child of number
+// `end` or above. (A slice with `known` beside it, and no Vec: there is no heap.)
+// (That a function leaves `parent` as it was is a clause of each: a ghost field speaks of one value, not of two.)
+#[derive(Drop)]
+pub(crate) struct Children<'a> {
+    pub parent: Row<'a>,
+    index: &'a mut [Entry],
+    known: u32,
+    row: usize,
+    first: u32,
+    end: u32,
+    ghost few_rows: { length parent.protos.now / row_bytes ≤ max_rows },
+    ghost tracks: { Tracks parent.protos.now parent.number index.now known row first end },
 }
 
-impl Cursor {
-    // Child k of the prototype in row `parent`. A child that is known, or known to be missing, is found without a search.
-    pub fn find(self, protos: &[u8], parent: usize, index: &mut [u32], k: u32) -> Found
-        requires row_there { (row_bytes * parent + row_bytes ≤ length protos.now) × (length protos.now / row_bytes ≤ max_rows) }
-        requires tracks { Tracks protos.now parent index.old self }
-        ensures child { result.child ≡ child_from protos.now (suc parent) 0 (child_of_row protos.now parent k) }
-        ensures still_tracks { Tracks protos.now parent index.new result.cursor }
+impl<'a> Children<'a> {
+    // Before the first search: whatever the index has, no child is known.
+    pub(crate) fn new(parent: Row<'a>, index: &'a mut [Entry]) -> Children<'a>
+        requires few_rows { length parent.protos.now / row_bytes ≤ max_rows }
+        requires room_for_children { RoomForChildren parent.protos.now index.old }
+        ensures { result.parent ≡ parent.entry }
     {
-        let mut cursor = self;
-        while cursor.known <= k {
-            if cursor.end <= k {
-                return Found {
-                    child: Child::Missing,
-                    cursor,
-                };
-            }
-            cursor = cursor.find_next(protos, parent, index);
-        }
-        let at = 2 * (k as usize);
-        Found {
-            child: Child::Row(index[at + 1], index[at] as usize),
-            cursor,
+        Children {
+            parent,
+            index,
+            known: 0,
+            row: parent.number + 1,
+            first: 0,
+            end: (parent.protos.len() / ROW_BYTES) as u32,
         }
     }
 
-    // Puts the next child into the index, where there is one.
-    fn find_next(self, protos: &[u8], parent: usize, index: &mut [u32]) -> Cursor
-        requires row_there { (row_bytes * parent + row_bytes ≤ length protos.now) × (length protos.now / row_bytes ≤ max_rows) }
-        requires tracks { Tracks protos.now parent index.old self }
-        requires more { self.known < self.end }
-        ensures still_tracks { Tracks protos.now parent index.new result }
-        ensures fewer_left { result.end - result.known < self.end - self.known }
+    // Child k of the prototype. A child that is known, or known to be missing, is found without a search.
+    pub(crate) fn find(&mut self, k: u32) -> Option<Child>
+        ensures child { result ≡ child_from self.old.parent.protos.now (suc self.old.parent.number) 0 (child_of_row self.old.parent.protos.now self.old.parent.number k) }
+        ensures same_parent { self.new.parent ≡ self.old.parent }
     {
-        let depth = field(protos, parent, DEPTH);
-        let Child::Row(first, row) = find_child(protos, self.row, depth, 0, self.first) else {
-            return Cursor {
-                end: self.known,
-                ..self
-            };
-        };
-        let at = 2 * (self.known as usize);
-        index[at] = row as u32;
-        index[at + 1] = first;
-        Cursor {
-            known: self.known + 1,
-            row: row + 1,
-            first: wrapping_add_u32(first, field(protos, row, UPVALUES)),
-            ..self
+        // A `while`: how many are known, or that there are no more, is said by each search.
+        while self.known <= k {
+            if self.end <= k {
+                return None;
+            }
+            self.find_next();
+        }
+        let entry = self.index[k as usize];
+        Some(Child {
+            first: entry.first,
+            row: entry.row as usize,
+        })
+    }
+
+    // Puts the next child into the index, where there is one.
+    fn find_next(&mut self)
+        requires more { self.old.known < self.old.end }
+        ensures same_parent { self.new.parent ≡ self.old.parent }
+        ensures fewer_left { self.new.end - self.new.known < self.old.end - self.old.known }
+    {
+        let parent = self.parent;
+        let protos = parent.protos;
+        match find_child(protos, self.row, parent.field(Column::Depth), 0, self.first) {
+            None => self.end = self.known,
+            Some(Child { first, row: number }) => {
+                self.index[self.known as usize] = Entry {
+                    row: number as u32,
+                    first,
+                };
+                self.known += 1;
+                self.row = number + 1;
+                // Read last: read before the index is written, the field is kept at every row that the search passes.
+                self.first = first.wrapping_add(Row { protos, number }.field(Column::Upvalues));
+            }
         }
     }
 }

@@ -3,6 +3,8 @@ use Rattle.std.proofs.Common.{◌≡◌, ℕ, ◌+◌, ◌-◌, ◌*◌, ◌/◌
 use mathlib.Core.Bool.{or-false, false≢true}
 use mathlib.Core.List.{flat_map, flatten}
 use lib.ListN.{get_or-eq_default}
+use Rattle.std.specs.Bool.{then_some}
+use Rattle.std.specs.Prelude.{Option}
 use Rattle.opcodes.specs.Bytes.{u32_at, i32_bits}
 use Rattle.opcodes.specs.Lists.{elem, only, up_from}
 use Rattle.opcodes.specs.Words.{B, opcode, operand, is, decoded, CLOSURE, SETLIST}
@@ -16,11 +18,12 @@ use Rattle.chunk.proofs.RoleBufferLaws.{length_roles}
 use Rattle.chunk.proofs.RoleLaws.{exists, next_executable, owned_count, companion_unexecutable}
 use Rattle.verdict.specs.Diagnostics.{Diagnostic, diagnostic, not_below, opcode_value, binding_diagnostics}
 use Rattle.verdict.specs.Operands.{is_unknown, is_binding, captured_register, captured_upvalue}
-use Rattle.validator.specs.Terms.{Describes}
+use Rattle.validator.specs.Terms.{Describes, as_list}
 use Rattle.validator.specs.Steps.{State, emitted_if, emit_all}
 use Rattle.validator.specs.declared.prototype.Prototype.{Prototype}
 use Rattle.validator.proofs.EmitLaws.{emits_only, emits_then, emits_none}
 use Rattle.validator.proofs.FaultLaws.{claims_count}
+use Rattle.validator.proofs.OperandLaws.{named_if}
 use Rattle.validator.proofs.DescribedLaws.{looked_up, word_read, words_of_lem}
 
 -- ---- one
@@ -31,9 +34,13 @@ module _ (r : RawInstruction51) (w : ℕ) (split : r ≡ decoded w) where
   number_of_lem = ap (λ (x : RawInstruction51). x.opcode_num) split
 
   -- what it captures under an opcode
-  pub captured : (op : ℕ) → only (eqb r.opcode_num op) r.b ≡ only (is w (op ∷ [])) (operand B w)
+  pub captured : (op : ℕ) (o : Option ℕ) → o ≡ then_some (eqb r.opcode_num op) r.b → as_list o ≡ only (is w (op ∷ [])) (operand B w)
   unfolding decoded is
-  captured op = ap (λ (x : RawInstruction51). only (eqb x.opcode_num op) x.b) split ∙ ap (λ (b : Bool). only b (operand B w)) (sym (or-false (eqb (opcode w) op)))
+  captured op o e =
+      rw e
+      (named_if (eqb r.opcode_num op) r.b
+      ∙ ap (λ (x : RawInstruction51). only (eqb x.opcode_num op) x.b) split
+      ∙ ap (λ (b : Bool). only b (operand B w)) (sym (or-false (eqb (opcode w) op))))
 
 -- its opcode as bits
 opcode_bits : (w : ℕ) → cond (ltb 37 (opcode w)) 4294967295 (opcode w) ≡ i32_bits (opcode_value w)
@@ -46,13 +53,13 @@ opcode_bits w = go (ltb 37 (opcode w))
 
 -- code 17
 pub bad_binding : (row pc w : ℕ) (r : RawInstruction51) → r ≡ decoded w → (b : Bool) (v : ℕ) (s t : State) → b ≡ elem r.opcode_num (0 ∷ 4 ∷ []) → v ≡ cond (ltb 37 r.opcode_num) 4294967295 r.opcode_num
-    → t ≡ emitted_if (not b) row pc 17 v s → t ≡ emit_all row (only (not (is_binding w)) (diagnostic pc 17 (opcode_value w))) s
+    → (o : Option ℕ) → o ≡ then_some (not b) v → t ≡ emitted_if row pc 17 o s → t ≡ emit_all row (only (not (is_binding w)) (diagnostic pc 17 (opcode_value w))) s
 unfolding is_binding is i32_bits
-bad_binding row pc w r split b v s t e f g =
+bad_binding row pc w r split b v s t e f o h g =
     let n = number_of_lem r w split in
-    g
-    ∙ ap₂ (λ (x : Bool) (y : ℕ). emitted_if (not x) row pc 17 y s) (e ∙ ap (λ (m : ℕ). elem m (0 ∷ 4 ∷ [])) n) (f ∙ ap (λ (m : ℕ). cond (ltb 37 m) 4294967295 m) n ∙ opcode_bits w)
-    ∙ emits_only row (not (is_binding w)) (diagnostic pc 17 (opcode_value w)) s
+    let opcode = f ∙ ap (λ (m : ℕ). cond (ltb 37 m) 4294967295 m) n ∙ opcode_bits w in
+    let test = e ∙ ap (λ (m : ℕ). elem m (0 ∷ 4 ∷ [])) n in
+    emits_only row (not (is_binding w)) (diagnostic pc 17 (opcode_value w)) o s t (h ∙ ap₂ (λ (x : Bool) (y : ℕ). then_some (not x) y) test opcode) g
 
 -- all that the binding word w at pc adds, with the limits that the code has
 abbrev pub binding_adds : Prototype → ℕ → ℕ → List Diagnostic

@@ -1,7 +1,8 @@
 -- The check call: its answer and its buffers, once the roles are filled in and the rows are walked. Assumes nothing.
-use Rattle.std.proofs.Common.{◌≡◌, ℕ, suc, ◌+◌, ◌-◌, ◌*◌, ◌/◌, ◌<◌, ◌≤◌, false, List, length, get_or, take, drop, sym, ap, ◌∙◌, subst, add-zero, arith, length-drop, length-take-le, get_or-drop, le-ltb, lt-ltb}
+use Rattle.std.proofs.Common.{◌≡◌, ℕ, suc, ◌+◌, ◌-◌, ◌*◌, ◌/◌, ◌<◌, ◌≤◌, false, List, length, get_or, take, drop, sym, refl, ap, ◌∙◌, subst, add-zero, arith, length-drop, length-take-le, get_or-drop, le-ltb, lt-ltb}
 use mathlib.Core.List.{flat_map}
 use mathlib.Core.Option.{Option, none, some}
+use Rattle.std.specs.Prelude.{Result, Ok, Err}
 use Rattle.opcodes.specs.Bytes.{u32s, i32_record, u32_record, overwrite}
 use Rattle.opcodes.proofs.ByteLaws.{length_u32s, length_overwrite, overwrite_none}
 use Rattle.chunk.specs.Calls.{answer, refused, accepted, filled, roles_answer, roles_after}
@@ -9,8 +10,6 @@ use Rattle.chunk.specs.Refusals.{Refused, or_else, refuse, refuse_if, too_short,
 use Rattle.chunk.specs.Roles.{role_at, role_bytes, records_of, roles}
 use Rattle.chunk.specs.Table.{Row, Proto, row_bytes, row_at, rows, protos, protos_of, proto_of}
 use Rattle.roles.specs.Terms.{refused_of, answer_of as rolesAnswerOf, proto_in, role_in}
-use Rattle.roles.specs.declared.calls.Answer.{Answer as Answered}
-use Rattle.roles.specs.declared.calls.Answer.TheVariants as answered
 use Rattle.roles.specs.declared.refusals.Refusal.{Refusal}
 use Rattle.roles.specs.declared.refusals.Refusal.TheVariants as refusal
 use Rattle.chunk.proofs.RefusalLaws.{ImageKept, or_else_none, image_kept, roles_kept}
@@ -25,11 +24,9 @@ use Rattle.verdict.specs.Statements.{Accepted, Guarantee}
 use Rattle.verdict.specs.Walk.{max_diagnostics, diagnostic_fields, diagnostic_bytes}
 use Rattle.verdict.proofs.GuaranteeLaws.{check_guaranteed}
 use Rattle.verdict.proofs.LimitLaws.{at_most}
-use Rattle.validator.specs.Terms.{answer_of, concluded, image_of}
-use Rattle.validator.specs.Steps.{State, Filled, Ready, Walked, step_row, walk_to}
+use Rattle.validator.specs.Terms.{answer_of, checked_in, concluded, image_of}
+use Rattle.validator.specs.Steps.{State, Filled, Walked, step_row, walk_to}
 use Rattle.validator.specs.declared.calls.Validation.{Validation}
-use Rattle.validator.specs.declared.calls.Validation.TheVariants as validation
-use Rattle.validator.specs.declared.walk.WalkState.{WalkState}
 use Rattle.validator.proofs.WalkedLaws.{begun, image_walked, walked_concluded, walked_empty}
 
 -- ---- the roles are filled in
@@ -80,9 +77,9 @@ module _ (table words records : List ℕ) (f : Filled table words records) where
   pub some_row : 0 < length table / row_bytes
   some_row = let k = image_kept table words f.accepted in omega (arith, k.some_row, k.whole_rows)
 
-  pub start_ready : (w : WalkState) → w.row ≡ 0 → w.first ≡ 0 → Ready table words records w
+  pub start_begins : 0 ≡ word_total (take 0 (rows table))
   unfolding word_total
-  start_ready w e g = record { filled = f; begins = g ∙ ap (λ (n : ℕ). word_total (take n (rows table))) (sym e) }
+  start_begins = refl
 
   -- and walks the image
   pub walked : (warnings errors stop : ℕ) (old : List ℕ) (s : State) → stop ≡ max_diagnostics - (warnings + errors)
@@ -97,8 +94,8 @@ module _ (table words records : List ℕ) (f : Filled table words records) where
 -- ---- what the walk says of the call
 
 module _ (i : Image) (old : List ℕ) (s : State) (w : Walked i old s) where
-  pub judged : (r : Validation) → answer_of r ≡ accepted (concluded i.warnings i.errors s.0) → answer_of r ≡ accepted (checked i)
-  judged r e = e ∙ ap (λ (c : Checked). accepted c) (walked_concluded i old s w)
+  pub judged : (v : Validation) → checked_in v ≡ concluded i.warnings i.errors s.0 → checked_in v ≡ checked i
+  judged v e = e ∙ walked_concluded i old s w
 
   counted : s.0.count ≡ length (diagnostics i)
   unfolding diagnostics
@@ -127,13 +124,13 @@ unfolding too_short refuse_if
 all_fit n len h = rw (le-ltb len (n * diagnostic_bytes) (omega arith))
 
 -- the answer and the buffer, by the refusal of a short buffer
-pub record Answers (i : Image) (buffer : List ℕ) (r : Validation) (new : List ℕ) : Type 0 where
+pub record Answers (i : Image) (buffer : List ℕ) (r : Result Validation Refusal) (new : List ℕ) : Type 0 where
   pub said : answer_of r ≡ answer (too_short (length (diagnostics i)) diagnostic_bytes (length buffer)) (checked i)
   pub left : new ≡ filled (too_short (length (diagnostics i)) diagnostic_bytes (length buffer)) buffer (i32_record (flat_map diagnostic_fields (diagnostics i)))
 
 module _ (i : Image) (buffer : List ℕ) where
   -- refused, and left as it was
-  pub refused_short : (n : ℕ) → too_short (length (diagnostics i)) diagnostic_bytes (length buffer) ≡ some (refused_of (refusal.BufferTooShort n)) → Answers i buffer (validation.Refused (refusal.BufferTooShort n)) buffer
+  pub refused_short : (n : ℕ) → too_short (length (diagnostics i)) diagnostic_bytes (length buffer) ≡ some (refused_of (refusal.BufferTooShort n)) → Answers i buffer (Err (refusal.BufferTooShort n)) buffer
   unfolding answer_of answer filled
   refused_short n e =
       record {
@@ -142,26 +139,26 @@ module _ (i : Image) (buffer : List ℕ) where
       }
 
   -- judged, and filled
-  pub accepted_long : (r : Validation) (new : List ℕ) → diagnostic_bytes * length (diagnostics i) ≤ length buffer → answer_of r ≡ accepted (checked i) → new ≡ overwrite buffer 0 (i32_record (flat_map diagnostic_fields (diagnostics i)))
-      → Answers i buffer r new
-  unfolding answer filled
-  accepted_long r new h e f =
+  pub accepted_long : (v : Validation) (new : List ℕ) → diagnostic_bytes * length (diagnostics i) ≤ length buffer → checked_in v ≡ checked i → new ≡ overwrite buffer 0 (i32_record (flat_map diagnostic_fields (diagnostics i)))
+      → Answers i buffer (Ok v) new
+  unfolding answer_of answer filled
+  accepted_long v new h e f =
       let none = all_fit (length (diagnostics i)) (length buffer) h in
       record {
-        said = e ∙ ap (λ (o : Option Refused). answer o (checked i)) (sym none);
+        said = ap (λ (c : Checked). accepted c) e ∙ ap (λ (o : Option Refused). answer o (checked i)) (sym none);
         left = f ∙ ap (λ (o : Option Refused). filled o buffer (i32_record (flat_map diagnostic_fields (diagnostics i)))) (sym none);
       }
 
 -- ---- the call
 
-module _ (i : Image) (records : List ℕ) (a : Answered) (judgedRoles : rolesAnswerOf a ≡ roles_answer i.table i.words (length records)) where
+module _ (i : Image) (records : List ℕ) (a : Result ℕ Refusal) (judgedRoles : rolesAnswerOf a ≡ roles_answer i.table i.words (length records)) where
   -- the roles call was not refused
-  pub not_refused : (n : ℕ) → a ≡ answered.Records n → roles_refusal i.table i.words (length records) ≡ none
+  pub not_refused : (n : ℕ) → a ≡ Ok n → roles_refusal i.table i.words (length records) ≡ none
   unfolding rolesAnswerOf roles_answer
   not_refused n e = accepted_none (roles_refusal i.table i.words (length records)) _ n (sym judgedRoles ∙ ap rolesAnswerOf e)
 
   -- it was
-  was_refused : (r : Refusal) → a ≡ answered.Refused r → roles_refusal i.table i.words (length records) ≡ some (refused_of r)
+  was_refused : (r : Refusal) → a ≡ Err r → roles_refusal i.table i.words (length records) ≡ some (refused_of r)
   unfolding rolesAnswerOf roles_answer answer
   was_refused r e = go (roles_refusal i.table i.words (length records)) (sym judgedRoles ∙ ap rolesAnswerOf e)
     where
@@ -169,8 +166,8 @@ module _ (i : Image) (records : List ℕ) (a : Answered) (judgedRoles : rolesAns
       go none q = let z : ◌≡◌ {A = ℕ} 0 1 = cc in absurd (omega arith)
       go (some x) q = cc
 
-  pub refused_call : (r : Refusal) (buffer : List ℕ) → a ≡ answered.Refused r
-      → (answer_of (validation.Refused r) ≡ check_answer i (length records) (length buffer)) × (buffer ≡ diagnostics_after i (length records) buffer)
+  pub refused_call : (r : Refusal) (buffer : List ℕ) → a ≡ Err r
+      → (answer_of (Err r) ≡ check_answer i (length records) (length buffer)) × (buffer ≡ diagnostics_after i (length records) buffer)
   unfolding answer_of check_answer check_refusal diagnostics_after answer filled or_else
   refused_call r buffer e =
       let o = sym (was_refused r e) in (
@@ -179,7 +176,7 @@ module _ (i : Image) (records : List ℕ) (a : Answered) (judgedRoles : rolesAns
       )
 
   -- the answer is that of the walk
-  pub answered_call : (n : ℕ) (r : Validation) (buffer new : List ℕ) → a ≡ answered.Records n → Answers i buffer r new
+  pub answered_call : (n : ℕ) (r : Result Validation Refusal) (buffer new : List ℕ) → a ≡ Ok n → Answers i buffer r new
       → (answer_of r ≡ check_answer i (length records) (length buffer)) × (new ≡ diagnostics_after i (length records) buffer)
   unfolding check_answer check_refusal diagnostics_after or_else
   answered_call n r buffer new e w =
@@ -189,10 +186,10 @@ module _ (i : Image) (records : List ℕ) (a : Answered) (judgedRoles : rolesAns
       )
 
   -- the largest number of diagnostics fits
-  pub most_fit : (n len : ℕ) → a ≡ answered.Records n → 10255 ≤ len / diagnostic_bytes → diagnostic_bytes * length (diagnostics i) ≤ len
+  pub most_fit : (n len : ℕ) → a ≡ Ok n → 10255 ≤ len / diagnostic_bytes → diagnostic_bytes * length (diagnostics i) ≤ len
   unfolding Accepted roles_refusal
   most_fit n len e h = omega (arith, at_most i (or_else_none _ _ (not_refused n e)).0)
 
 -- demand 3, from the answer
-pub guaranteed : (i : Image) (role_length len : ℕ) (r : Validation) → answer_of r ≡ check_answer i role_length len → (c : Checked) → answer_of r ≡ accepted c → Guarantee i c
+pub guaranteed : (i : Image) (role_length len : ℕ) (r : Result Validation Refusal) → answer_of r ≡ check_answer i role_length len → (c : Checked) → answer_of r ≡ accepted c → Guarantee i c
 guaranteed i role_length len r e c q = check_guaranteed i role_length len c (sym e ∙ q)

@@ -19,8 +19,11 @@ use Rattle.verdict.specs.Operands.{is_jump, is_skip, is_loadbool_skip, skip_targ
 use Rattle.verdict.specs.Rules.{Below, Lands, JumpKept, BindingKept, registers_of, constants_of}
 use Rattle.verdict.specs.Diagnostics.{diagnostics_at}
 use Rattle.verdict.proofs.RuleLaws.{known_none}
-use Rattle.validator.specs.Clean.{FlowKept, OperandsBelow, limits_of, shapes}
+use Rattle.validator.specs.Clean.{FlowKept, OperandsBelow, limits_of, names_nothing, place, shapes}
 use Rattle.validator.specs.Terms.{Describes, Limits, Stands}
+use Rattle.validator.specs.declared.clean.Flow.{Flow}
+use Rattle.validator.specs.declared.clean.Flow.TheVariants.{Next, Target, Past}
+use Rattle.validator.specs.declared.clean.Shape.{Shape}
 use Rattle.validator.specs.declared.prototype.Prototype.{Prototype}
 use Rattle.validator.proofs.DescribedLaws.{looked_up, word_read}
 use Rattle.validator.proofs.FaultLaws.{raw_of, split_again}
@@ -56,8 +59,26 @@ unfolding only
 below_if true x limit f = all_cons (f tt) all_nil
 below_if false x limit f = all_nil
 
-abbrev shape : ℕ → ℕ
-shape n = get_or shapes n 0
+abbrev names : ℕ → Shape
+names n = get_or shapes n names_nothing
+
+-- a number for each way
+way : Flow → ℕ
+way Next = 0
+way Target = 1
+way (Past k) = 2 + k
+
+way_target : (f : Flow) → way f ≡ 1 → f ≡ Target
+unfolding way
+way_target Next e = absurd (omega (arith, e))
+way_target Target e = refl
+way_target (Past k) e = absurd (omega (arith, e))
+
+way_past : (f : Flow) (k : ℕ) → way f ≡ 2 + k → f ≡ Past k
+unfolding way
+way_past Next k e = absurd (omega (arith, e))
+way_past Target k e = absurd (omega (arith, e))
+way_past (Past j) k e = ap Past (omega (arith, e))
 
 -- ---- operands
 
@@ -69,27 +90,27 @@ module _ (q : Prototype) (w : ℕ) where
   at : (x place k : ℕ) → ltb x (limit place) ≡ true → place ≡ k → x < limit k
   at x place k h e = subst (λ (i : ℕ). x < limit i) e (ltb-true _ _ h)
 
-  module _ (h : ltb (field_a w) (limit (shape (opcode w) % 16)) ≡ true) where
+  module _ (h : ltb (field_a w) (limit (place (names (opcode w)).a)) ≡ true) where
     flag : Below 2 (flag_a w)
     unfolding flag_a is shapes limits_of
-    flag = below_if _ _ _ (λ t. at _ _ 8 h (has (EQ ∷ LT ∷ LE ∷ []) (λ n. shape n % 16) 8 (opcode w) tt t))
+    flag = below_if _ _ _ (λ t. at _ _ 8 h (has (EQ ∷ LT ∷ LE ∷ []) (λ n. place (names n).a) 8 (opcode w) tt t))
 
     register : opcode w < 38 → Below q.stack (register_a w)
     unfolding register_a is shapes limits_of
     register known =
         below_if _ _ _ (λ t.
         let rest = t_false (elem (opcode w) without_a) (t_and (not (is_unknown w)) (not (elem (opcode w) without_a)) t).1 in
-        let place = up_to (λ n. elem n without_a || eqb (shape n % 16) 2) 0 38 (opcode w) tt (omega arith) known in
-        at _ _ 2 h (eqb→eq (shape (opcode w) % 16) 2 (subst (λ (b : Bool). T (b || eqb (shape (opcode w) % 16) 2)) rest place)))
+        let two = up_to (λ n. elem n without_a || eqb (place (names n).a) 2) 0 38 (opcode w) tt (omega arith) known in
+        at _ _ 2 h (eqb→eq (place (names (opcode w)).a) 2 (subst (λ (b : Bool). T (b || eqb (place (names (opcode w)).a) 2)) rest two)))
 
-  module _ (h : ltb (field_bx w) (limit (shape (opcode w) / 16 % 16)) ≡ true) where
+  module _ (h : ltb (field_bx w) (limit (place (names (opcode w)).bx)) ≡ true) where
     constant : Below q.constants (constant_bx w)
     unfolding constant_bx is shapes limits_of
-    constant = below_if _ _ _ (λ t. at _ _ 5 h (has (LOADK ∷ GETGLOBAL ∷ SETGLOBAL ∷ []) (λ n. shape n / 16 % 16) 5 (opcode w) tt t))
+    constant = below_if _ _ _ (λ t. at _ _ 5 h (has (LOADK ∷ GETGLOBAL ∷ SETGLOBAL ∷ []) (λ n. place (names n).bx) 5 (opcode w) tt t))
 
     child : Below q.children (child_bx w)
     unfolding child_bx is shapes limits_of
-    child = below_if _ _ _ (λ t. at _ _ 9 h (has (CLOSURE ∷ []) (λ n. shape n / 16 % 16) 9 (opcode w) tt t))
+    child = below_if _ _ _ (λ t. at _ _ 9 h (has (CLOSURE ∷ []) (λ n. place (names n).bx) 9 (opcode w) tt t))
 
   -- B or C
   module _ (f : Field) (place : ℕ) (h : ltb (operand f w % 256) (limit (place + operand f w / 256)) ≡ true) where
@@ -131,20 +152,20 @@ module _ (q : Prototype) (w : ℕ) where
           let place-4 = rk both.0 in
           rw (t_true (leb 256 (operand f w)) both.1) (subst (λ (n : ℕ). n < q.constants) same (at (operand f w % 256) (place + operand f w / 256) 5 h (omega (arith, operand_below f w)))))
 
-  upvalue : ltb (operand B w % 256) (limit (shape (opcode w) / 256 % 16 + operand B w / 256)) ≡ true → Below q.upvalues (upvalue_b w)
+  upvalue : ltb (operand B w % 256) (limit (place (names (opcode w)).b + operand B w / 256)) ≡ true → Below q.upvalues (upvalue_b w)
   unfolding upvalue_b is shapes limits_of
-  upvalue h = below_if _ _ _ (λ t. plain B _ h 6 (has (GETUPVAL ∷ SETUPVAL ∷ []) (λ n. shape n / 256 % 16) 6 (opcode w) tt t) refl)
+  upvalue h = below_if _ _ _ (λ t. plain B _ h 6 (has (GETUPVAL ∷ SETUPVAL ∷ []) (λ n. place (names n).b) 6 (opcode w) tt t) refl)
 
   -- the spans that B and C end
-  module _ (h : leb (field_a w + shape (opcode w) / 65536 % 16 / 2 + shape (opcode w) / 65536 % 16 % 2 * operand B w) (q.stack + 1) ≡ true)
-      (g : leb (field_a w + shape (opcode w) / 1048576 % 16 / 2 + shape (opcode w) / 1048576 % 16 % 2 * operand C w) (q.stack + 1) ≡ true) where
-    by_b : (ops : List ℕ) (k : ℕ) → T (every (λ n. eqb (shape n / 65536 % 16) k) ops) → T (is w ops) → field_a w + k / 2 + k % 2 * operand B w ≤ q.stack + 1
+  module _ (h : leb (field_a w + (names (opcode w)).b_span / 2 + (names (opcode w)).b_span % 2 * operand B w) (q.stack + 1) ≡ true)
+      (g : leb (field_a w + (names (opcode w)).c_span / 2 + (names (opcode w)).c_span % 2 * operand C w) (q.stack + 1) ≡ true) where
+    by_b : (ops : List ℕ) (k : ℕ) → T (every (λ n. eqb ((names n).b_span) k) ops) → T (is w ops) → field_a w + k / 2 + k % 2 * operand B w ≤ q.stack + 1
     unfolding is
-    by_b ops k a t = subst (λ (i : ℕ). field_a w + i / 2 + i % 2 * operand B w ≤ q.stack + 1) (has ops (λ n. shape n / 65536 % 16) k (opcode w) a t) (leb-true _ _ h)
+    by_b ops k a t = subst (λ (i : ℕ). field_a w + i / 2 + i % 2 * operand B w ≤ q.stack + 1) (has ops (λ n. (names n).b_span) k (opcode w) a t) (leb-true _ _ h)
 
-    by_c : (ops : List ℕ) (k : ℕ) → T (every (λ n. eqb (shape n / 1048576 % 16) k) ops) → T (is w ops) → field_a w + k / 2 + k % 2 * operand C w ≤ q.stack + 1
+    by_c : (ops : List ℕ) (k : ℕ) → T (every (λ n. eqb ((names n).c_span) k) ops) → T (is w ops) → field_a w + k / 2 + k % 2 * operand C w ≤ q.stack + 1
     unfolding is
-    by_c ops k a t = subst (λ (i : ℕ). field_a w + i / 2 + i % 2 * operand C w ≤ q.stack + 1) (has ops (λ n. shape n / 1048576 % 16) k (opcode w) a t) (leb-true _ _ g)
+    by_c ops k a t = subst (λ (i : ℕ). field_a w + i / 2 + i % 2 * operand C w ≤ q.stack + 1) (has ops (λ n. (names n).c_span) k (opcode w) a t) (leb-true _ _ g)
 
     both : (ops : List ℕ) (least x : ℕ) → T (is w ops && ltb least x) → T (is w ops) × (least < x)
     both ops least x t = let s = t_and (is w ops) (ltb least x) t in (s.0, ltb→lt least x s.1)
@@ -164,18 +185,18 @@ module _ (q : Prototype) (w : ℕ) where
         all_nil))))))))
 
   -- all of them
-  pub operands : opcode w < 38 → ltb (field_a w) (limit (shape (opcode w) % 16)) ≡ true → ltb (field_bx w) (limit (shape (opcode w) / 16 % 16)) ≡ true
-      → ltb (operand B w % 256) (limit (shape (opcode w) / 256 % 16 + operand B w / 256)) ≡ true
-      → ltb (operand C w % 256) (limit (shape (opcode w) / 4096 % 16 + operand C w / 256)) ≡ true
-      → leb (field_a w + shape (opcode w) / 65536 % 16 / 2 + shape (opcode w) / 65536 % 16 % 2 * operand B w) (q.stack + 1) ≡ true
-      → leb (field_a w + shape (opcode w) / 1048576 % 16 / 2 + shape (opcode w) / 1048576 % 16 % 2 * operand C w) (q.stack + 1) ≡ true
+  pub operands : opcode w < 38 → ltb (field_a w) (limit (place (names (opcode w)).a)) ≡ true → ltb (field_bx w) (limit (place (names (opcode w)).bx)) ≡ true
+      → ltb (operand B w % 256) (limit (place (names (opcode w)).b + operand B w / 256)) ≡ true
+      → ltb (operand C w % 256) (limit (place (names (opcode w)).c + operand C w / 256)) ≡ true
+      → leb (field_a w + (names (opcode w)).b_span / 2 + (names (opcode w)).b_span % 2 * operand B w) (q.stack + 1) ≡ true
+      → leb (field_a w + (names (opcode w)).c_span / 2 + (names (opcode w)).c_span % 2 * operand C w) (q.stack + 1) ≡ true
       → OperandsBelow q w
   unfolding registers_of constants_of is shapes B C
   operands known a bx b c sb sc =
-      let fixed-b : T (elem (opcode w) B.fixed) → shape (opcode w) / 256 % 16 ≡ 2 = has B.fixed (λ n. shape n / 256 % 16) 2 (opcode w) tt in
-      let rk-b : T (elem (opcode w) B.rk) → shape (opcode w) / 256 % 16 ≡ 4 = has B.rk (λ n. shape n / 256 % 16) 4 (opcode w) tt in
-      let fixed-c : T (elem (opcode w) C.fixed) → shape (opcode w) / 4096 % 16 ≡ 2 = has C.fixed (λ n. shape n / 4096 % 16) 2 (opcode w) tt in
-      let rk-c : T (elem (opcode w) C.rk) → shape (opcode w) / 4096 % 16 ≡ 4 = has C.rk (λ n. shape n / 4096 % 16) 4 (opcode w) tt in
+      let fixed-b : T (elem (opcode w) B.fixed) → place (names (opcode w)).b ≡ 2 = has B.fixed (λ n. place (names n).b) 2 (opcode w) tt in
+      let rk-b : T (elem (opcode w) B.rk) → place (names (opcode w)).b ≡ 4 = has B.rk (λ n. place (names n).b) 4 (opcode w) tt in
+      let fixed-c : T (elem (opcode w) C.fixed) → place (names (opcode w)).c ≡ 2 = has C.fixed (λ n. place (names n).c) 2 (opcode w) tt in
+      let rk-c : T (elem (opcode w) C.rk) → place (names (opcode w)).c ≡ 4 = has C.rk (λ n. place (names n).c) 4 (opcode w) tt in
       record {
         constant = all_flatten (all_cons (constant bx) (all_cons (field_constant B _ b fixed-b rk-b) (all_cons (field_constant C _ c fixed-c rk-c) all_nil)));
         upvalue = upvalue b;
@@ -186,98 +207,90 @@ module _ (q : Prototype) (w : ℕ) where
 
 -- ---- as the code has them
 
--- the places are in the list, and a word goes one of 16 ways
+-- the places are in the list
 bounded : (f : ℕ → ℕ) (k n : ℕ) → T (every (λ m. ltb (f m) k) (up_from 0 38)) → n < 38 → f n < k
 bounded f k n t h = ltb→lt (f n) k (up_to (λ m. ltb (f m) k) 0 38 n t (omega arith) h)
 
-pub few_ways : (n : ℕ) → n < 38 → shape n / 16777216 < 16
-unfolding shapes
-few_ways n h = bounded (λ m. shape m / 16777216) 16 n tt h
-
-module _ (q : Prototype) (limits : List ℕ) (s : ℕ) (w : RawInstruction51)
-    (pre : (limits ≡ limits_of q) × (w ≡ decoded w.raw) × (w.opcode_num < 38) × (s ≡ shape w.opcode_num)) where
+module _ (q : Prototype) (limits : List ℕ) (s : Shape) (w : RawInstruction51)
+    (known : limits ≡ limits_of q) (pre : (w ≡ decoded w.raw) × (w.opcode_num < 38) × (s ≡ names w.opcode_num)) where
   ten : length limits ≡ 10
   unfolding limits_of
-  ten = ap length pre.0
+  ten = ap length known
 
-  pub place_a : s % 16 < length limits
+  pub place_a : place s.a < length limits
   unfolding shapes
-  place_a = rw (pre.3, ten) (bounded (λ m. shape m % 16) 10 w.opcode_num tt pre.2)
+  place_a = rw (pre.2, ten) (bounded (λ m. place (names m).a) 10 w.opcode_num tt pre.1)
 
-  pub place_bx : s / 16 % 16 < length limits
+  pub place_bx : place s.bx < length limits
   unfolding shapes
-  place_bx = rw (pre.3, ten) (bounded (λ m. shape m / 16 % 16) 10 w.opcode_num tt pre.2)
+  place_bx = rw (pre.2, ten) (bounded (λ m. place (names m).bx) 10 w.opcode_num tt pre.1)
 
-  pub place_b : (s / 256 % 16 < 16) × (s / 256 % 16 + 1 < length limits) × (w.b < 512)
+  pub place_b : (place s.b + 1 < length limits) × (w.b < 512)
   unfolding shapes
-  place_b = (omega arith, rw (pre.3, ten) (bounded (λ m. shape m / 256 % 16 + 1) 10 w.opcode_num tt pre.2), subst⁻¹ (λ (n : ℕ). n < 512) (split_b w pre.1) (operand_below B w.raw))
+  place_b = (rw (pre.2, ten) (bounded (λ m. place (names m).b + 1) 10 w.opcode_num tt pre.1), subst⁻¹ (λ (n : ℕ). n < 512) (split_b w pre.0) (operand_below B w.raw))
 
-  pub place_c : (s / 4096 % 16 < 16) × (s / 4096 % 16 + 1 < length limits) × (w.c < 512)
+  pub place_c : (place s.c + 1 < length limits) × (w.c < 512)
   unfolding shapes
-  place_c = (omega arith, rw (pre.3, ten) (bounded (λ m. shape m / 4096 % 16 + 1) 10 w.opcode_num tt pre.2), subst⁻¹ (λ (n : ℕ). n < 512) (split_c w pre.1) (operand_below C w.raw))
+  place_c = (rw (pre.2, ten) (bounded (λ m. place (names m).c + 1) 10 w.opcode_num tt pre.1), subst⁻¹ (λ (n : ℕ). n < 512) (split_c w pre.0) (operand_below C w.raw))
 
-  of_opcode : s ≡ shape (opcode w.raw)
-  of_opcode = pre.3 ∙ ap shape (split_number w pre.1)
+  of_opcode : s ≡ names (opcode w.raw)
+  of_opcode = pre.2 ∙ ap names (split_number w pre.0)
 
-  -- a test with a place and a value
-  below_of : (x y : ℕ) (f : ℕ → ℕ) → x ≡ y → ltb x (get_or limits (f s) 0) ≡ true → ltb y (get_or (limits_of q) (f (shape (opcode w.raw))) 0) ≡ true
-  below_of x y f e h =
-      ap (λ (n : ℕ). ltb n (get_or (limits_of q) (f (shape (opcode w.raw))) 0)) (sym e)
-      ∙ ap (λ (n : ℕ). ltb x (get_or (limits_of q) (f n) 0)) (sym of_opcode)
-      ∙ ap (λ (l : List ℕ). ltb x (get_or l (f s) 0)) (sym pre.0)
-      ∙ h
-
-  field_of : (x y : ℕ) (f : ℕ → ℕ) → x ≡ y → ltb (x % 256) (get_or limits (f s + x / 256) 0) ≡ true → ltb (y % 256) (get_or (limits_of q) (f (shape (opcode w.raw)) + y / 256) 0) ≡ true
-  field_of x y f e h =
-      subst (λ (z : ℕ). ltb (z % 256) (get_or (limits_of q) (f (shape (opcode w.raw)) + z / 256) 0) ≡ true) e (below_of (x % 256) (x % 256) (λ n. f n + x / 256) refl h)
-
-  span_of : (x y : ℕ) (f : ℕ → ℕ) → x ≡ y → leb (w.a + f s / 2 + f s % 2 * x) (q.stack + 1) ≡ true
-      → leb (field_a w.raw + f (shape (opcode w.raw)) / 2 + f (shape (opcode w.raw)) % 2 * y) (q.stack + 1) ≡ true
-  span_of x y f e h =
-      subst (λ (z : ℕ). leb (field_a w.raw + f (shape (opcode w.raw)) / 2 + f (shape (opcode w.raw)) % 2 * z) (q.stack + 1) ≡ true) e
-      (subst (λ (n : ℕ). leb (field_a w.raw + f n / 2 + f n % 2 * x) (q.stack + 1) ≡ true) of_opcode
-      (subst (λ (a : ℕ). leb (a + f s / 2 + f s % 2 * x) (q.stack + 1) ≡ true) (split_a w pre.1) h))
-
-  pub operands_of : ltb w.a (get_or limits (s % 16) 0) ≡ true → ltb w.bx (get_or limits (s / 16 % 16) 0) ≡ true
-      → ltb (w.b % 256) (get_or limits (s / 256 % 16 + w.b / 256) 0) ≡ true → ltb (w.c % 256) (get_or limits (s / 4096 % 16 + w.c / 256) 0) ≡ true
-      → leb (w.a + s / 65536 % 16 / 2 + s / 65536 % 16 % 2 * w.b) (q.stack + 1) ≡ true → leb (w.a + s / 1048576 % 16 / 2 + s / 1048576 % 16 % 2 * w.c) (q.stack + 1) ≡ true
+  pub operands_of : ltb w.a (get_or limits (place s.a) 0) ≡ true → ltb w.bx (get_or limits (place s.bx) 0) ≡ true
+      → ltb (w.b % 256) (get_or limits (place s.b + w.b / 256) 0) ≡ true → ltb (w.c % 256) (get_or limits (place s.c + w.c / 256) 0) ≡ true
+      → leb (w.a + s.b_span / 2 + s.b_span % 2 * w.b) (q.stack + 1) ≡ true → leb (w.a + s.c_span / 2 + s.c_span % 2 * w.c) (q.stack + 1) ≡ true
       → OperandsBelow q w.raw
   operands_of a bx b c sb sc =
-      operands q w.raw (subst (λ (n : ℕ). n < 38) (split_number w pre.1) pre.2) (below_of _ _ (λ n. n % 16) (split_a w pre.1) a) (below_of _ _ (λ n. n / 16 % 16) (split_bx w pre.1) bx)
-      (field_of _ _ (λ n. n / 256 % 16) (split_b w pre.1) b) (field_of _ _ (λ n. n / 4096 % 16) (split_c w pre.1) c)
-      (span_of _ _ (λ n. n / 65536 % 16) (split_b w pre.1) sb) (span_of _ _ (λ n. n / 1048576 % 16) (split_c w pre.1) sc)
+      operands q w.raw (subst (λ (n : ℕ). n < 38) (split_number w pre.0) pre.1) (as_known _ _ (λ s. place s.a) (split_a w pre.0) a) (as_known _ _ (λ s. place s.bx) (split_bx w pre.0) bx)
+      (field_of _ _ (λ s. place s.b) (split_b w pre.0) b) (field_of _ _ (λ s. place s.c) (split_c w pre.0) c)
+      (span_of _ _ (λ s. s.b_span) (split_b w pre.0) sb) (span_of _ _ (λ s. s.c_span) (split_c w pre.0) sc)
+    where
+      -- a test with a place and a value
+      as_known : (x y : ℕ) (f : Shape → ℕ) → x ≡ y → ltb x (get_or limits (f s) 0) ≡ true → ltb y (get_or (limits_of q) (f (names (opcode w.raw))) 0) ≡ true
+      as_known x y f e h =
+          ap (λ (n : ℕ). ltb n (get_or (limits_of q) (f (names (opcode w.raw))) 0)) (sym e)
+          ∙ ap (λ (n : Shape). ltb x (get_or (limits_of q) (f n) 0)) (sym of_opcode)
+          ∙ ap (λ (l : List ℕ). ltb x (get_or l (f s) 0)) (sym known)
+          ∙ h
+
+      field_of : (x y : ℕ) (f : Shape → ℕ) → x ≡ y → ltb (x % 256) (get_or limits (f s + x / 256) 0) ≡ true → ltb (y % 256) (get_or (limits_of q) (f (names (opcode w.raw)) + y / 256) 0) ≡ true
+      field_of x y f e h =
+          subst (λ (z : ℕ). ltb (z % 256) (get_or (limits_of q) (f (names (opcode w.raw)) + z / 256) 0) ≡ true) e (as_known (x % 256) (x % 256) (λ n. f n + x / 256) refl h)
+
+      span_of : (x y : ℕ) (f : Shape → ℕ) → x ≡ y → leb (w.a + f s / 2 + f s % 2 * x) (q.stack + 1) ≡ true
+          → leb (field_a w.raw + f (names (opcode w.raw)) / 2 + f (names (opcode w.raw)) % 2 * y) (q.stack + 1) ≡ true
+      span_of x y f e h =
+          subst (λ (z : ℕ). leb (field_a w.raw + f (names (opcode w.raw)) / 2 + f (names (opcode w.raw)) % 2 * z) (q.stack + 1) ≡ true) e
+          (subst (λ (n : Shape). leb (field_a w.raw + f n / 2 + f n % 2 * x) (q.stack + 1) ≡ true) of_opcode
+          (subst (λ (a : ℕ). leb (a + f s / 2 + f s % 2 * x) (q.stack + 1) ≡ true) (split_a w pre.0) h))
 
 -- ---- where a word goes
 
-module _ (p : Proto) (pc : ℕ) (k : FlowKept p (shape (opcode (word_at p pc)) / 16777216) pc (field_bx (word_at p pc))) where
-  abbrev flow : ℕ → ℕ
-  flow n = shape n / 16777216
-
+module _ (p : Proto) (pc : ℕ) (k : FlowKept p (names (opcode (word_at p pc))).flow pc (field_bx (word_at p pc))) where
   -- an executable word stands ahead
-  ahead : (ops : List ℕ) (i : ℕ) → T (every (λ n. eqb (flow n) (2 + i)) ops) → T (is (word_at p pc) ops) → T (is_executable (role_at p (pc + (2 + i) / 2)))
+  ahead : (ops : List ℕ) (i : ℕ) → T (every (λ n. eqb (way (names n).flow) (2 + i)) ops) → T (is (word_at p pc) ops) → T (is_executable (role_at p (pc + i)))
   unfolding is
-  ahead ops i a t =
-      let e = has ops flow (2 + i) (opcode (word_at p pc)) a t in
-      subst (λ (n : ℕ). T (is_executable (role_at p (pc + n / 2)))) e (k.ahead i e)
+  ahead ops i a t = k.ahead i (way_past (names (opcode (word_at p pc))).flow i (has ops (λ n. way (names n).flow) (2 + i) (opcode (word_at p pc)) a t))
 
   pub jump : JumpKept p pc
-  unfolding is_jump is_skip is_loadbool_skip skip_target is shapes
+  unfolding is_jump is_skip is_loadbool_skip skip_target is shapes way
   jump =
       record {
-        target = λ t. subst (Lands p) (sym (target_sum pc (word_at p pc))) (k.target (has with_sbx flow 1 (opcode (word_at p pc)) tt t));
+        target = λ t. subst (Lands p) (sym (target_sum pc (word_at p pc)))
+            (k.target (way_target (names (opcode (word_at p pc))).flow (has with_sbx (λ n. way (names n).flow) 1 (opcode (word_at p pc)) tt t)));
         skip = by_or (is (word_at p pc) skips) (is (word_at p pc) (LOADBOOL ∷ []) && ltb 0 (operand C (word_at p pc))) (ahead skips 2 tt)
             (λ t. ahead (LOADBOOL ∷ []) 2 tt (t_and (is (word_at p pc) (LOADBOOL ∷ [])) (ltb 0 (operand C (word_at p pc))) t).0);
       }
 
   -- it has no binding words
   no_words : Executable p pc → binding_words p pc ≡ 0
-  unfolding shapes
+  unfolding shapes way
   no_words x = go (is (word_at p pc) (CLOSURE ∷ [])) refl
     where
       go : (b : Bool) → is (word_at p pc) (CLOSURE ∷ []) ≡ b → binding_words p pc ≡ 0
       go true e =
           let t : T (is (word_at p pc) (CLOSURE ∷ [])) = subst⁻¹ T e tt in
-          let end = bindings_end p pc x t (pc + 1) (omega arith) (omega arith) (t_true _ (ahead (CLOSURE ∷ []) 0 tt t)) in
+          let end = bindings_end p pc x t (pc + 1) (omega arith) (omega arith) (t_true _ (ahead (CLOSURE ∷ []) 1 tt t)) in
           omega (arith, end)
       go false e = only_closures p pc e
 
@@ -298,7 +311,7 @@ module _ (p : Proto) (q : Prototype) (roles : List ℕ) (h : Stands p q roles) w
 -- ---- the word
 
 pub clean : (p : Proto) (q : Prototype) (pc : ℕ) → Limits p q → Executable p pc → opcode (word_at p pc) < 38 → OperandsBelow q (word_at p pc)
-    → FlowKept p (shape (opcode (word_at p pc)) / 16777216) pc (field_bx (word_at p pc)) → diagnostics_at p pc ≡ []
+    → FlowKept p (names (opcode (word_at p pc))).flow pc (field_bx (word_at p pc)) → diagnostics_at p pc ≡ []
 unfolding is_unknown
 clean p q pc l x known o k =
     known_none p pc (subst⁻¹ (λ (b : Bool). T (not b)) (le-ltb 37 (opcode (word_at p pc)) (omega arith)) tt)
@@ -320,14 +333,14 @@ module _ (p : Proto) (q : Prototype) (code roles : List ℕ) (d : Describes p q 
 
   -- the word that was read
   pub word_clean : pc < length code / 4 → (b : Bool) → b ≡ not (is_executable (role_in roles pc)) → b ≡ false → (v : ℕ) (w : RawInstruction51) → v ≡ u32_at code (4 * pc) → w ≡ decoded v → w.opcode_num ≤ 37
-      → OperandsBelow q w.raw → (s : ℕ) → s ≡ shape w.opcode_num → FlowKept p (s / 16777216) pc w.bx → diagnostics_at p pc ≡ []
-  word_clean there b e f v w read split known o s named k =
+      → OperandsBelow q w.raw → (s : Shape) → s ≡ names w.opcode_num → FlowKept p s.flow pc w.bx → diagnostics_at p pc ≡ []
+  word_clean there b e f v w read split known o s as_list k =
       let again = split_again v w split in
       let raw : w.raw ≡ word_at p pc = raw_of v w split ∙ read ∙ word_read p q code roles d pc there in
       let number : w.opcode_num ≡ opcode (word_at p pc) = split_number w again ∙ ap opcode raw in
       let bx : w.bx ≡ field_bx (word_at p pc) = split_bx w again ∙ ap field_bx raw in
       clean p q pc d.limits (executes p q code roles d pc there b e f) (omega (arith, number)) (subst (OperandsBelow q) raw o)
-      (subst (λ (n : ℕ). FlowKept p (shape (opcode (word_at p pc)) / 16777216) pc n) bx (subst (λ (n : ℕ). FlowKept p (n / 16777216) pc w.bx) (named ∙ ap shape number) k))
+      (subst (λ (n : ℕ). FlowKept p (names (opcode (word_at p pc))).flow pc n) bx (subst (λ (n : Shape). FlowKept p n.flow pc w.bx) (as_list ∙ ap names number) k))
 
 -- ---- the words one after another
 

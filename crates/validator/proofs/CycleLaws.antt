@@ -5,10 +5,11 @@ use Rattle.chunk.specs.Table.{row_bytes, row_at}
 use Rattle.roles.specs.Terms.{proto_in}
 use Rattle.verdict.specs.Diagnostics.{proto_steps}
 use Rattle.validator.specs.Terms.{prototype_of}
-use Rattle.validator.specs.Steps.{State, Ready, tested_of, moved_to, own_steps, step_row, walk_to}
+use Rattle.validator.specs.Steps.{State, Begins, tested_of, moved_to, own_steps, step_row, walk_to}
 use Rattle.validator.specs.declared.prototype.Prototype.{Prototype}
 use Rattle.validator.specs.declared.walk.WalkState.{WalkState}
-use Rattle.validator.proofs.RowLaws.{Begins, More, steps_row, step_begins, step_going, part_walked, tested_ended, child_rest, child_ended, child_moves, child_begins}
+use Rattle.validator.proofs.ReadyLaws.{Ready}
+use Rattle.validator.proofs.RowLaws.{More, steps_row, step_begins, step_going, part_walked, tested_ended, child_rest, child_ended, child_moves, child_begins}
 
 -- ---- a row, and then the rows below it
 
@@ -26,12 +27,8 @@ module _ (table words roles : List ℕ) (w : WalkState) (ready : Ready table wor
     unfolding moved_to
     next_row = ap (λ (x : WalkState). x.row) moved ∙ ap (λ (n : ℕ). n + 1) same_row
 
-    pub next_ready : Ready table words roles m
-    next_ready =
-        record {
-          filled = ready.filled;
-          begins = subst (λ (x : State). Begins table x.0) (step_going table words (w, out) y own going ∙ sym on) (step_begins table words (w, out) there ready.begins);
-        }
+    pub next_begins : Begins table m
+    next_begins = subst (λ (x : State). Begins table x.0) (step_going table words (w, out) y own going ∙ sym on) (step_begins table words (w, out) there ready.begins)
 
     pub below_walked : (z : State) → z ≡ walk_to table words q.depth (m, y.1) → z ≡ walk_to table words (row_at table w.row).depth (step_row table words (w, out))
     unfolding prototype_of
@@ -54,9 +51,9 @@ module _ (table words : List ℕ) (d : ℕ) (s₀ s : State) (pass : ChildPass t
   unfolding tested_of
   tested_row = ap (λ (x : WalkState). x.row) e
 
-  pub tested_ready : (roles : List ℕ) (w : WalkState) → Ready table words roles w → Ready table words roles t
+  pub tested_begins : Begins table t
   unfolding tested_of
-  tested_ready roles w r = record { filled = r.filled; begins = subst (λ (x : WalkState). Begins table x) (sym e) pass.begins }
+  tested_begins = subst (λ (x : WalkState). Begins table x) (sym e) pass.begins
 
   pub stopped : t.limit ≡ true → ◌≡◌ {A = State} (t, s.1) (walk_to table words d s₀)
   stopped l = ap (λ (x : WalkState). (x, s.1)) e ∙ tested_ended table words d s m (sym (ap (λ (x : WalkState). x.limit) e) ∙ l) ∙ pass.leads

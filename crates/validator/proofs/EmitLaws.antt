@@ -1,10 +1,14 @@
 -- Diagnostics added one after another. Assumes nothing.
-use Rattle.std.proofs.Common.{◌≡◌, ℕ, suc, ◌-◌, Bool, true, false, ◌&&◌, ◌||◌, leb, List, [], ◌∷◌, ◌++◌, pos, negsuc, sym, refl, ap, ◌∙◌, append_assoc}
+use Rattle.std.proofs.Common.{◌≡◌, ℕ, suc, ◌-◌, Bool, true, false, ◌||◌, leb, List, [], ◌∷◌, ◌++◌, pos, negsuc, sym, refl, ap, ◌∙◌, append_assoc}
+use Rattle.std.specs.Bool.{then_some}
+use Rattle.std.specs.Prelude.{Option, Some, None}
+use Rattle.std.specs.Option.{MatchOption}
 use mathlib.Core.List.{flatten, foldl-append}
 use Rattle.opcodes.specs.Bytes.{i32_bits}
 use Rattle.opcodes.specs.Lists.{only}
 use Rattle.opcodes.proofs.TestLaws.{or-false}
 use Rattle.verdict.specs.Diagnostics.{Diagnostic, diagnostic, not_below, tested_step}
+use Rattle.validator.specs.Terms.{as_list}
 use Rattle.validator.specs.declared.walk.WalkState.{WalkState}
 use Rattle.validator.specs.Steps.{State, emitted, emitted_if, emit, emit_all, ended, tested_of, advance}
 
@@ -20,16 +24,11 @@ pub emits_bits : (row pc code n : ℕ) (s : State) → emitted row pc code (4294
 unfolding emit_all emit i32_bits
 emits_bits row pc code n s = refl
 
--- where its condition holds
-pub emits_hit : (row pc code : ℕ) (b : Bool) (value : ℕ) (s : State) → emitted_if b row pc code value s ≡ emit_all row (only b (diagnostic pc code (pos value))) s
-unfolding emit_all emit i32_bits emitted_if only
-emits_hit row pc code true value s = refl
-emits_hit row pc code false value s = refl
-
-pub emits_only : (row : ℕ) (b : Bool) (d : Diagnostic) (s : State) → emitted_if b row (i32_bits d.pc) d.code (i32_bits d.value) s ≡ emit_all row (only b d) s
+-- where a test gives it a value
+pub emits_only : (row : ℕ) (b : Bool) (d : Diagnostic) (o : Option ℕ) (s t : State) → o ≡ then_some b (i32_bits d.value) → t ≡ emitted_if row (i32_bits d.pc) d.code o s → t ≡ emit_all row (only b d) s
 unfolding emit_all emit emitted_if only
-emits_only row true d s = refl
-emits_only row false d s = refl
+emits_only row true d o s t e f = f ∙ ap (λ (v : Option ℕ). emitted_if row (i32_bits d.pc) d.code v s) e
+emits_only row false d o s t e f = f ∙ ap (λ (v : Option ℕ). emitted_if row (i32_bits d.pc) d.code v s) e
 
 -- ---- some
 
@@ -64,14 +63,27 @@ module _ (row : ℕ) where
 
 -- ---- operands that are not below their limit
 
-pub emits_over : (row pc code limit value : ℕ) (s : State) (named over : Bool) → over ≡ (named && leb limit value) → emitted_if over row pc code value s ≡ emit_all row (not_below pc code limit (only named value)) s
-unfolding emitted_if not_below only
-emits_over row pc code limit value s named over e = rw e (go named (leb limit value) refl)
-  where
-    go : (n b : Bool) → leb limit value ≡ b → emitted_if (n && b) row pc code value s ≡ emit_all row (not_below pc code limit (only n value)) s
-    go true true q = rw q (emits_word row pc code value s)
-    go true false q = rw q (emits_none row s)
-    go false b q = emits_none row s
+module _ (row pc code limit : ℕ) (s : State) where
+  -- the word names nothing
+  pub emits_unnamed : s ≡ emit_all row (not_below pc code limit (as_list None)) s
+  unfolding not_below
+  emits_unnamed = emits_none row s
+
+  -- it names this
+  pub emits_over : (value : ℕ) → emitted_if row pc code (then_some (leb limit value) value) s ≡ emit_all row (not_below pc code limit (as_list (Some value))) s
+  unfolding emitted_if not_below
+  emits_over value = go (leb limit value) refl
+    where
+      go : (b : Bool) → leb limit value ≡ b → emitted_if row pc code (then_some b value) s ≡ emit_all row (not_below pc code limit (as_list (Some value))) s
+      go true q = rw q (emits_word row pc code value s)
+      go false q = rw q (emits_none row s)
+
+  -- it may name something, and what is not below the limit was kept
+  pub emits_filtered : (operand over : Option ℕ) (P : ℕ → Bool → Type 0) (t : State) → ((x : ℕ) (b : Bool) → P x b → b ≡ leb limit x)
+      → MatchOption operand (over ≡ None) (λ x. (b : Bool) × P x b × (over ≡ then_some b x)) → t ≡ emitted_if row pc code over s → t ≡ emit_all row (not_below pc code limit (as_list operand)) s
+  unfolding emitted_if
+  emits_filtered None over P t f m e = e ∙ ap (λ (o : Option ℕ). emitted_if row pc code o s) m ∙ emits_unnamed
+  emits_filtered (Some x) over P t f m e = e ∙ ap (λ (o : Option ℕ). emitted_if row pc code o s) (m.2 ∙ ap (λ (b : Bool). then_some b x) (f x m.0 m.1)) ∙ emits_over x
 
 -- ---- after a test
 

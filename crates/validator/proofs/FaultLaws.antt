@@ -4,6 +4,7 @@ use mathlib.Core.Path.{subst⁻¹}
 use mathlib.Core.Bool.{and-false}
 use mathlib.Core.List.{flat_map}
 use borrow.Author.Tests.{lt-leb, eqb-false}
+use Rattle.std.specs.Prelude.{Option, Some, None}
 use Rattle.opcodes.specs.Bytes.{u32_at, u32s}
 use Rattle.opcodes.specs.Lists.{All, all_nil, all_cons, up_from, tabulate, only}
 use Rattle.opcodes.specs.Words.{is, decoded, operand, field_bx, C, CLOSURE, SETLIST}
@@ -14,7 +15,6 @@ use Rattle.chunk.specs.Table.{Proto, row_at, rows, child_at}
 use Rattle.chunk.specs.Roles.{Role, Instruction, ClosureBinding, SetlistExtra, is_executable, executable_at, Executable, binding_count, has_extra, claims, role_at, word_at, owned, existing, companions, is_truncated}
 use Rattle.roles.specs.Terms.{child_from, child_of_row, proto_in, role_in}
 use Rattle.roles.specs.declared.table.Child.{Child}
-use Rattle.roles.specs.declared.table.Child.TheVariants as child
 use Rattle.chunk.proofs.RoleLaws.{executable_role, exists, role, executable, first_executable, next_executable, owned_count, owned_role}
 use Rattle.roles.proofs.OwnerLaws.{has_opcode, has_other}
 use Rattle.roles.proofs.SearchLaws.{FoundChild, found_child, missing, no_upvalues, anew}
@@ -219,15 +219,15 @@ module _ (p : Proto) (pc : ℕ) (r : RawInstruction51) (split : r ≡ decoded r.
 
 module _ (table : List ℕ) (q : Prototype) (same : q ≡ prototype_of table q.row) where
   -- the search for its child k, and the child's upvalues
-  module _ (k : ℕ) (c : Child) (search : c ≡ child_from table (q.row + 1) 0 (child_at q.depth (drop (q.row + 1) (rows table)) k)) where
+  module _ (k : ℕ) (c : Option Child) (search : c ≡ child_from table (q.row + 1) 0 (child_at q.depth (drop (q.row + 1) (rows table)) k)) where
     child_is : c ≡ child_from table (suc q.row) 0 (child_of_row table q.row k)
     unfolding prototype_of row_at
     child_is = anew table q.row k q.depth c (ap (λ (x : Prototype). x.depth) same) search
 
-    pub child_found : (first r : ℕ) → c ≡ child.Row first r → FoundChild table q.row k r first
-    child_found first r e = found_child table q.row k r first (sym e ∙ child_is)
+    pub child_found : (x : Child) → c ≡ Some x → FoundChild table q.row k x.row x.first
+    child_found x e = found_child table q.row k x.row x.first (sym e ∙ child_is)
 
-    pub child_missed : c ≡ child.Missing → 0 ≡ get_or (proto_in table q.row []).children k 0
+    pub child_missed : c ≡ None → 0 ≡ get_or (proto_in table q.row []).children k 0
     child_missed e = sym (no_upvalues table q.row k (missing table q.row k (sym e ∙ child_is)))
 
   -- its words, and the last one's owner
@@ -255,14 +255,14 @@ module _ (table : List ℕ) (q : Prototype) (same : q ≡ prototype_of table q.r
       again : r ≡ decoded r.raw
       again = split_again w r split
 
-      pub no_fault : o + m < size → fault_diagnostics fault.None ≡ flat_map (truncation_at proto) (up_from 0 size)
+      pub no_fault : o + m < size → fault_diagnostics None ≡ flat_map (truncation_at proto) (up_from 0 size)
       unfolding fault_diagnostics
       no_fault h = none_truncated proto size words_are (omega arith) o r.raw m place_is bits (count o (u32s code)) h
 
-      pub closure_fault : size ≤ o + m → r.opcode_num ≡ CLOSURE → fault_diagnostics (fault.TruncatedClosure o m) ≡ flat_map (truncation_at proto) (up_from 0 size)
+      pub closure_fault : size ≤ o + m → r.opcode_num ≡ CLOSURE → fault_diagnostics (Some (fault.TruncatedClosure o m)) ≡ flat_map (truncation_at proto) (up_from 0 size)
       unfolding fault_diagnostics
       closure_fault h e = truncated_closure proto size words_are (omega arith) o r.raw m place_is bits (count o (u32s code)) h (has_opcode r.raw r again CLOSURE e)
 
-      pub setlist_fault : size ≤ o + m → (r.opcode_num ≡ CLOSURE → ⊥) → fault_diagnostics (fault.TruncatedSetlist o) ≡ flat_map (truncation_at proto) (up_from 0 size)
+      pub setlist_fault : size ≤ o + m → (r.opcode_num ≡ CLOSURE → ⊥) → fault_diagnostics (Some (fault.TruncatedSetlist o)) ≡ flat_map (truncation_at proto) (up_from 0 size)
       unfolding fault_diagnostics
       setlist_fault h e = truncated_setlist proto size words_are (omega arith) o r.raw m place_is bits (count o (u32s code)) h (has_other r.raw r again CLOSURE e)

@@ -1,19 +1,26 @@
 -- A word that was split and whose opcode is known: its tests and operands, by the arm that the opcode came to. Assumes nothing.
-use Rattle.std.proofs.Common.{◌≡◌, ℕ, ◌+◌, ◌-◌, ◌<◌, Bool, true, false, ◌&&◌, T, ltb, ◌⊎◌, List, [], ◌∷◌, ◌++◌, sym, refl, ap, ◌∙◌, subst, ap₂, ⊎_elim, append-nil, arith, le-ltb}
+use Rattle.std.proofs.Common.{◌≡◌, ℕ, ◌+◌, ◌-◌, ◌<◌, Bool, true, false, not, ◌&&◌, ◌||◌, T, ltb, ◌⊎◌, List, [], ◌∷◌, ◌++◌, sym, refl, ap, ◌∙◌, subst, ap₂, ⊎_elim, append-nil, arith, le-ltb}
 use mathlib.Core.List.{flatten}
+use Rattle.std.specs.Bool.{then_some}
+use Rattle.std.specs.Prelude.{Option, Some, None}
 use Rattle.opcodes.specs.Lists.{elem, only}
-use Rattle.opcodes.specs.Words.{Field, B, C, opcode, operand, field_a, field_bx, is, decoded, opcode_of, number_of, is_fixed_register, is_rk, SELF, FORPREP, FORLOOP, TFORLOOP, CALL, TAILCALL, RETURN, VARARG, SETLIST, LOADBOOL, EQ, LT, LE, TEST, TESTSET}
+use Rattle.opcodes.specs.Words.{B, C, field_of, operand_in, opcode, operand, field_a, field_bx, is, decoded, opcode_of, number_of, a_is_register, without_a, is_constant, constant_index, is_fixed_register, is_rk, SELF, FORPREP, FORLOOP, TFORLOOP, CALL, TAILCALL, RETURN, VARARG, SETLIST, CLOSURE, LOADBOOL, EQ, LT, LE, TEST, TESTSET}
 use Rattle.opcodes.specs.declared.Opcode51.{Opcode51}
 use Rattle.opcodes.specs.declared.OpcodeField.TheVariants.{Known}
 use Rattle.opcodes.specs.declared.RawInstruction51.{RawInstruction51}
 use Rattle.opcodes.proofs.FieldLaws.{field_below}
 use Rattle.opcodes.proofs.OpcodeLaws.{known_below, known_number}
 use Rattle.opcodes.proofs.TestLaws.{subset, is_among}
-use Rattle.verdict.specs.Operands.{is_unknown, is_skip, is_loadbool_skip, span_ends}
-use Rattle.validator.specs.Terms.{Decodes, ends, operand_field}
-use Rattle.validator.specs.declared.operands.OperandField.{OperandField}
-use Rattle.validator.specs.declared.operands.Span.{Span}
-use Rattle.validator.specs.declared.operands.Span.TheVariants.{None, To}
+use Rattle.verdict.specs.Operands.{is_unknown, is_skip, is_loadbool_skip, span_ends, register_a, register_in, constant_in, child_bx}
+use Rattle.validator.specs.Terms.{Decodes, as_list}
+use Rattle.opcodes.specs.declared.Field.{Field as FieldCode}
+use Rattle.opcodes.specs.declared.Field.TheVariants as field
+
+-- what a test lets it name
+pub named_if : (b : Bool) (v : ℕ) → as_list (then_some b v) ≡ only b v
+unfolding only
+named_if true v = refl
+named_if false v = refl
 
 -- the opcodes that always may skip
 abbrev pub skips : List ℕ
@@ -65,11 +72,50 @@ module _ (op : Opcode51) (w : RawInstruction51) (d : Decodes op w) where
   unfolding is
   listed ops = ap (λ (n : ℕ). elem n ops) (sym number)
 
-  -- field B or C
-  pub field_of : (f : Field) (fixed rk : Bool) (value : ℕ) → fixed ≡ is_fixed_register f op → rk ≡ is_rk f op → value ≡ operand f w.raw
-      → ◌≡◌ {A = OperandField} (record { fixed = fixed; rk = rk; value = value }) (operand_field f w.raw)
-  unfolding operand_field is_fixed_register is_rk
-  field_of f fixed rk value e g h = rw (e ∙ listed f.fixed, g ∙ listed f.rk, h)
+  -- ---- operands
+
+  -- the opcode is in the list: the word names this
+  pub names : (ops : List ℕ) (v u : ℕ) → true ≡ elem (number_of op) ops → v ≡ u → as_list (Some v) ≡ only (is w.raw ops) u
+  unfolding only
+  names ops v u e q = rw (← listed ops, ← e, q)
+
+  -- it is not
+  pub names_none : (ops : List ℕ) (u : ℕ) → false ≡ elem (number_of op) ops → as_list None ≡ only (is w.raw ops) u
+  unfolding only
+  names_none ops u e = rw (← listed ops, ← e)
+
+  -- register A
+  pub names_a : (b : Bool) (o : Option ℕ) → b ≡ a_is_register op → o ≡ then_some b w.a → as_list o ≡ register_a w.raw
+  unfolding register_a a_is_register
+  names_a b o e g = rw g (named_if b w.a ∙ ap₂ only (e ∙ ap not (listed without_a)) (split_a w d.split) ∙ rw not_unknown)
+
+  -- a CLOSURE's child
+  pub names_child : (b : Bool) (o : Option ℕ) → b ≡ is w.raw (CLOSURE ∷ []) → o ≡ then_some b w.bx → as_list o ≡ child_bx w.raw
+  unfolding child_bx
+  names_child b o e g = rw g (named_if b w.bx ∙ ap₂ only e (split_bx w d.split))
+
+  -- B or C, by the code's name
+  operand_of : (f : FieldCode) → operand_in f w ≡ operand (field_of f) w.raw
+  operand_of field.B = split_b w d.split
+  operand_of field.C = split_c w d.split
+
+  fixed_of : (f : FieldCode) → is_fixed_register (field_of f) op ≡ is w.raw (field_of f).fixed
+  unfolding is_fixed_register
+  fixed_of f = listed (field_of f).fixed
+
+  rk_of : (f : FieldCode) → is_rk (field_of f) op ≡ is w.raw (field_of f).rk
+  unfolding is_rk
+  rk_of f = listed (field_of f).rk
+
+  pub names_register : (f : FieldCode) (value : ℕ) (b : Bool) → value ≡ operand_in f w → b ≡ (is_fixed_register (field_of f) op || is_rk (field_of f) op && not (is_constant value)) → (o : Option ℕ) → o ≡ then_some b value
+      → as_list o ≡ register_in (field_of f) w.raw
+  unfolding register_in
+  names_register f value b q e o h = rw h (named_if b value ∙ rw (e, q, fixed_of f, rk_of f, operand_of f))
+
+  pub names_constant : (f : FieldCode) (value k : ℕ) (b : Bool) → value ≡ operand_in f w → b ≡ (is_rk (field_of f) op && is_constant value) → k ≡ constant_index value → (o : Option ℕ) → o ≡ then_some b k
+      → as_list o ≡ constant_in (field_of f) w.raw
+  unfolding constant_in
+  names_constant f value k b q e g o h = rw h (named_if b k ∙ rw (e, g, q, rk_of f, operand_of f))
 
   -- ---- skips
 
@@ -121,41 +167,40 @@ module _ (op : Opcode51) (w : RawInstruction51) (d : Decodes op w) where
       let q : n ≡ opcode w.raw = sym e ∙ sym (number op w d) in
       rw (q, split_a w d.split, split_b w d.split, split_c w d.split)
 
-  module _ (first second : Span) where
-    pub span_self : number_of op ≡ SELF → ends first ++ ends second ≡ ends (To (w.a + 1)) → ends first ++ ends second ≡ span_ends w.raw
-    unfolding ends flatten only
-    span_self e f = f ∙ spans_of SELF e
+  pub span_self : number_of op ≡ SELF → as_list (Some (w.a + 1)) ++ as_list None ≡ span_ends w.raw
+  unfolding flatten only
+  span_self e = spans_of SELF e
 
-    pub span_for : (number_of op ≡ FORPREP) ⊎ (number_of op ≡ FORLOOP) → ends first ++ ends second ≡ ends (To (w.a + 3)) → ends first ++ ends second ≡ span_ends w.raw
-    unfolding ends flatten only
-    span_for e f = f ∙ ⊎_elim (spans_of FORPREP) (spans_of FORLOOP) e
+  pub span_for : (number_of op ≡ FORPREP) ⊎ (number_of op ≡ FORLOOP) → as_list (Some (w.a + 3)) ++ as_list None ≡ span_ends w.raw
+  unfolding flatten only
+  span_for e = ⊎_elim (spans_of FORPREP) (spans_of FORLOOP) e
 
-    pub span_tforloop : number_of op ≡ TFORLOOP → ends first ++ ends second ≡ ends (To (w.a + 2 + w.c)) → ends first ++ ends second ≡ span_ends w.raw
-    unfolding ends flatten only
-    span_tforloop e f = f ∙ spans_of TFORLOOP e
+  pub span_tforloop : number_of op ≡ TFORLOOP → as_list (Some (w.a + 2 + w.c)) ++ as_list None ≡ span_ends w.raw
+  unfolding flatten only
+  span_tforloop e = spans_of TFORLOOP e
 
-    pub span_call : number_of op ≡ CALL → ends first ≡ only (ltb 0 w.b) (w.a + w.b - 1) → ends second ≡ only (ltb 1 w.c) (w.a + w.c - 2) → ends first ++ ends second ≡ span_ends w.raw
+  module _ (first : Option ℕ) where
+    pub span_call : (second : Option ℕ) → number_of op ≡ CALL → as_list first ≡ only (ltb 0 w.b) (w.a + w.b - 1) → as_list second ≡ only (ltb 1 w.c) (w.a + w.c - 2) → as_list first ++ as_list second ≡ span_ends w.raw
     unfolding flatten only
-    span_call e f g = ap₂ (λ (x y : List ℕ). x ++ y) f (g ∙ sym (append-nil _)) ∙ spans_of CALL e
+    span_call second e f g = ap₂ (λ (x y : List ℕ). x ++ y) f (g ∙ sym (append-nil _)) ∙ spans_of CALL e
 
-    pub span_tailcall : (t : Span) → number_of op ≡ TAILCALL → ends t ≡ only (ltb 0 w.b) (w.a + w.b - 1) → ends first ++ ends second ≡ ends t → ends first ++ ends second ≡ span_ends w.raw
+    pub span_tailcall : number_of op ≡ TAILCALL → as_list first ≡ only (ltb 0 w.b) (w.a + w.b - 1) → as_list first ++ as_list None ≡ span_ends w.raw
     unfolding flatten only
-    span_tailcall t e g f = f ∙ g ∙ sym (append-nil _) ∙ spans_of TAILCALL e
+    span_tailcall e f = ap (λ (x : List ℕ). x ++ []) f ∙ spans_of TAILCALL e
 
-    pub span_return : (t : Span) → (number_of op ≡ RETURN) ⊎ (number_of op ≡ VARARG) → ends t ≡ only (ltb 1 w.b) (w.a + w.b - 2) → ends first ++ ends second ≡ ends t → ends first ++ ends second ≡ span_ends w.raw
+    pub span_return : (number_of op ≡ RETURN) ⊎ (number_of op ≡ VARARG) → as_list first ≡ only (ltb 1 w.b) (w.a + w.b - 2) → as_list first ++ as_list None ≡ span_ends w.raw
     unfolding flatten only
-    span_return t e g f = f ∙ g ∙ sym (append-nil _) ∙ ⊎_elim (spans_of RETURN) (spans_of VARARG) e
+    span_return e f = ap (λ (x : List ℕ). x ++ []) f ∙ ⊎_elim (spans_of RETURN) (spans_of VARARG) e
 
-    pub span_setlist : (t : Span) → number_of op ≡ SETLIST → ends t ≡ only (ltb 0 w.b) (w.a + 1 + w.b - 1) → ends first ++ ends second ≡ ends t → ends first ++ ends second ≡ span_ends w.raw
+    pub span_setlist : number_of op ≡ SETLIST → as_list first ≡ only (ltb 0 w.b) (w.a + 1 + w.b - 1) → as_list first ++ as_list None ≡ span_ends w.raw
     unfolding flatten only
-    span_setlist t e g f =
+    span_setlist e f =
         let sum : w.a + 1 + w.b - 1 ≡ w.a + w.b = omega arith in
-        f ∙ g ∙ ap (only (ltb 0 w.b)) sum ∙ sym (append-nil _) ∙ spans_of SETLIST e
+        ap (λ (x : List ℕ). x ++ []) (f ∙ ap (only (ltb 0 w.b)) sum) ∙ spans_of SETLIST e
 
-    pub span_none : false ≡ elem (number_of op) spanning → ends first ++ ends second ≡ ends None → ends first ++ ends second ≡ span_ends w.raw
-    unfolding ends flatten only span_ends
-    span_none e f =
-        let none = sym (listed op w d spanning) ∙ sym e in
-        let no : (ops : List ℕ) → T (subset ops spanning) → is w.raw ops ≡ false = λ ops s. none_of w.raw ops spanning s none in
-        f
-        ∙ rw (no (SELF ∷ []) tt, no (FORPREP ∷ FORLOOP ∷ []) tt, no (TFORLOOP ∷ []) tt, no (CALL ∷ []) tt, no (TAILCALL ∷ []) tt, no (RETURN ∷ VARARG ∷ []) tt, no (SETLIST ∷ []) tt)
+  pub span_none : false ≡ elem (number_of op) spanning → as_list None ++ as_list None ≡ span_ends w.raw
+  unfolding flatten only span_ends
+  span_none e =
+      let none = sym (listed op w d spanning) ∙ sym e in
+      let no : (ops : List ℕ) → T (subset ops spanning) → is w.raw ops ≡ false = λ ops s. none_of w.raw ops spanning s none in
+      rw (no (SELF ∷ []) tt, no (FORPREP ∷ FORLOOP ∷ []) tt, no (TFORLOOP ∷ []) tt, no (CALL ∷ []) tt, no (TAILCALL ∷ []) tt, no (RETURN ∷ VARARG ∷ []) tt, no (SETLIST ∷ []) tt)

@@ -1,6 +1,8 @@
 -- A prototype's own steps: its truncated owner, its stack, and its words one after another. Assumes nothing.
 use Rattle.std.proofs.Common.{◌≡◌, ℕ, zero, suc, ◌+◌, ◌-◌, ◌/◌, ◌<◌, ◌≤◌, Bool, true, false, cond, not, ◌&&◌, ◌||◌, T, ltb, leb, List, [], ◌∷◌, ◌++◌, map, length, pos, negsuc, sym, refl, ap, ◌∙◌, subst, append-nil, add-zero, add-one, arith}
 use mathlib.Core.Path.{subst⁻¹}
+use Rattle.std.specs.Bool.{then_some}
+use Rattle.std.specs.Prelude.{Option}
 use mathlib.Core.List.{flat_map, flatten, foldl, foldl-append}
 use Rattle.opcodes.specs.Bytes.{i32_bits}
 use Rattle.opcodes.specs.Lists.{up_from}
@@ -21,14 +23,14 @@ use Rattle.validator.proofs.RowLaws.{tested_step_lem, steps_ended}
 
 -- ---- the stack and the truncated owner
 
-pub stack_warned : (row : ℕ) (p : Proto) (q : Prototype) → Limits p q → (s t : State) → t ≡ emitted_if (ltb 250 q.stack) row 4294967295 3 q.stack s → t ≡ emit_all row (stack_diagnostics p) s
+pub stack_warned : (row : ℕ) (p : Proto) (q : Prototype) → Limits p q → (o : Option ℕ) → o ≡ then_some (ltb 250 q.stack) q.stack → (s t : State) → t ≡ emitted_if row 4294967295 3 o s → t ≡ emit_all row (stack_diagnostics p) s
 unfolding stack_diagnostics has_large_stack i32_bits
-stack_warned row p q l s t e = rw l.stack (e ∙ emits_only row (ltb 250 q.stack) (record { pc = negsuc 0; code = 3; value = pos q.stack }) s)
+stack_warned row p q l o f s t e = rw l.stack (emits_only row (ltb 250 q.stack) (record { pc = negsuc 0; code = 3; value = pos q.stack }) o s t f e)
 
 -- the steps of a fault, once the code knows which it is
-pub fault_steps_lem : (row : ℕ) (found told : Lua51RoleFault) (s t : State) → found ≡ told → t ≡ foldl (advance row) s (map (λ d. tested_step (d ∷ [])) (fault_diagnostics told))
+pub fault_steps_lem : (row : ℕ) (found told : Option Lua51RoleFault) (s t : State) → found ≡ told → t ≡ foldl (advance row) s (map (λ d. tested_step (d ∷ [])) (fault_diagnostics told))
     → t ≡ foldl (advance row) s (map (λ d. tested_step (d ∷ [])) (fault_diagnostics found))
-fault_steps_lem row found told s t e f = f ∙ ap (λ (x : Lua51RoleFault). foldl (advance row) s (map (λ d. tested_step (d ∷ [])) (fault_diagnostics x))) (sym e)
+fault_steps_lem row found told s t e f = f ∙ ap (λ (x : Option Lua51RoleFault). foldl (advance row) s (map (λ d. tested_step (d ∷ [])) (fault_diagnostics x))) (sym e)
 
 -- ---- a word
 
@@ -128,7 +130,7 @@ after_test p = fault_steps p ++ after_fault p
 
 -- what the code found, for all words
 module _ (row : ℕ) (p : Proto) (q : Prototype) (code records : List ℕ) (d : Describes p q code records) (s u : State) where
-  pub faulted : (found : Lua51RoleFault) → fault_diagnostics found ≡ flat_map (truncation_at p) (up_from 0 (length code / 4)) → u ≡ foldl (advance row) s (map fault_step (fault_diagnostics found))
+  pub faulted : (found : Option Lua51RoleFault) → fault_diagnostics found ≡ flat_map (truncation_at p) (up_from 0 (length code / 4)) → u ≡ foldl (advance row) s (map fault_step (fault_diagnostics found))
       → u ≡ foldl (advance row) s (fault_steps p)
   faulted found e f =
       f ∙ ap (λ (ds : List Diagnostic). foldl (advance row) s (map fault_step ds)) (e ∙ ap (λ (n : ℕ). flat_map (truncation_at p) (up_from 0 n)) (words_of_lem p q code records d))

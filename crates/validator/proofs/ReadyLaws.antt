@@ -1,5 +1,5 @@
 -- What a walk that is ready for its next row knows: that the row's words and roles are there, and what they are. Assumes nothing.
-use Rattle.std.proofs.Common.{◌≡◌, ℕ, suc, ◌+◌, ◌-◌, ◌*◌, ◌/◌, ◌<◌, ◌≤◌, List, length, take, drop, sym, ap, ◌∙◌, ap₂, arith, length-take, length-take-le, take_all}
+use Rattle.std.proofs.Common.{◌≡◌, ℕ, suc, ◌+◌, ◌-◌, ◌*◌, ◌/◌, ◌<◌, ◌≤◌, List, length, take, drop, sym, ap, ◌∙◌, ap₂, arith, length-take-le, take_all}
 use mathlib.Core.Path.{subst⁻¹}
 use mathlib.Core.List.{foldl}
 use lib.ListN.{length-map}
@@ -15,26 +15,24 @@ use Rattle.chunk.proofs.TotalLaws.{words_front, words_next}
 use Rattle.roles.proofs.RoleFillLaws.{part_length, part_proto}
 use Rattle.verdict.specs.Diagnostics.{proto_steps}
 use Rattle.validator.specs.Terms.{Describes, Ordered, prototype_of}
-use Rattle.validator.specs.Steps.{State, Ready, advance, own_steps}
+use Rattle.validator.specs.Steps.{State, Begins, Filled, advance, own_steps}
 use Rattle.validator.specs.declared.prototype.Prototype.{Prototype}
 use Rattle.validator.specs.declared.walk.WalkState.{WalkState}
 
-pub few_rows : (table words roles : List ℕ) (w : WalkState) → Ready table words roles w → length table / row_bytes ≤ max_rows
-few_rows table words roles w ready = omega (arith, (image_kept table words ready.filled.accepted).row_limit, length_rows table)
+pub record Ready (table words roles : List ℕ) (w : WalkState) : Type 0 where
+  pub filled : Filled table words roles
+  pub begins : Begins table w
 
-pub in_order : (table words roles : List ℕ) (w : WalkState) → Ready table words roles w → Ordered table
-in_order table words roles w ready = record { depths = (image_kept table words ready.filled.accepted).depths; few = few_rows table words roles w ready }
+pub ready : (table words roles : List ℕ) (w : WalkState) → Filled table words roles → Begins table w → Ready table words roles w
+ready table words roles w f b = record { filled = f; begins = b }
 
--- the numbers that the code's arithmetic needs
-pub record Room (table words roles : List ℕ) (row first next : ℕ) : Type 0 where
-  pub few : length table / row_bytes ≤ max_rows
-  pub row_there : row_bytes * row + row_bytes ≤ length table
-  pub after : first ≤ next
-  pub within : 4 * next ≤ length words
-  pub short : length words ≤ max_word_bytes
-  pub roles_there : role_bytes * next ≤ length roles
+pub few_rows : (table words roles : List ℕ) → Filled table words roles → length table / row_bytes ≤ max_rows
+few_rows table words roles f = omega (arith, (image_kept table words f.accepted).row_limit, length_rows table)
 
-module _ (table words roles : List ℕ) (w : WalkState) (ready : Ready table words roles w) (there : w.row < length table / row_bytes) (q : Prototype) (e : q ≡ prototype_of table w.row) where
+pub in_order : (table words roles : List ℕ) → Filled table words roles → Ordered table
+in_order table words roles f = record { depths = (image_kept table words f.accepted).depths; few = few_rows table words roles f }
+
+module _ (table words roles : List ℕ) (w : WalkState) (r : Ready table words roles w) (there : w.row < length table / row_bytes) (q : Prototype) (e : q ≡ prototype_of table w.row) where
   -- the row's words end where the next row's begin
   abbrev next : ℕ
   next = w.first + q.words
@@ -47,18 +45,12 @@ module _ (table words roles : List ℕ) (w : WalkState) (ready : Ready table wor
   unfolding prototype_of
   row_of = ap (λ (x : Prototype). x.row) e
 
-  pub room : Room table words roles w.row w.first next
+  -- the row's words and their roles are there
+  pub room : (4 * next ≤ length words) × (role_bytes * next ≤ length roles) × (length words ≤ max_word_bytes)
   room =
-      let kept : ImageKept table words = image_kept table words ready.filled.accepted in
-      let total : next ≤ word_total (rows table) = omega (arith, words_next table w.row there, words_front (rows table) (suc w.row), ready.begins, stated) in
-      record {
-        few = few_rows table words roles w ready;
-        row_there = omega arith;
-        after = omega arith;
-        within = omega (arith, kept.word_count);
-        short = kept.word_limit;
-        roles_there = omega (arith, ready.filled.fits);
-      }
+      let kept : ImageKept table words = image_kept table words r.filled.accepted in
+      let total : next ≤ word_total (rows table) = omega (arith, words_next table w.row there, words_front (rows table) (suc w.row), r.begins, stated) in
+      (omega (arith, kept.word_count), omega (arith, r.filled.fits), kept.word_limit)
 
   -- the parts of the words and of the roles that belong to the row
   abbrev word_part : List ℕ
@@ -68,16 +60,10 @@ module _ (table words roles : List ℕ) (w : WalkState) (ready : Ready table wor
   role_part = take (role_bytes * next - role_bytes * w.first) (drop (role_bytes * w.first) roles)
 
   pub part_size : length word_part ≡ 4 * (row_at table w.row).words
-  part_size = part_length table words w.row w.first next stated room.within
-
-  pub short_parts : (length word_part ≤ max_word_bytes) × (length role_part ≤ 2 * max_word_bytes)
-  short_parts = (
-    omega (arith, part_size, stated, room.within, room.short),
-    omega (arith, length-take (role_bytes * next - role_bytes * w.first) (drop (role_bytes * w.first) roles), room.within, room.short),
-  )
+  part_size = part_length table words w.row w.first next stated room.0
 
   own_proto : proto_in table w.row (u32s word_part) ≡ proto_in table w.row (drop w.first (u32s words))
-  own_proto = part_proto table words w.row w.first next stated room.within
+  own_proto = part_proto table words w.row w.first next stated room.0
 
   words_stated : length (u32s word_part) ≡ (row_at table w.row).words
   words_stated = omega (arith, length_u32s word_part, part_size)
@@ -85,9 +71,9 @@ module _ (table words roles : List ℕ) (w : WalkState) (ready : Ready table wor
   roles_found : (pc : ℕ) → role_in role_part pc ≡ role_at (proto_in table w.row (u32s word_part)) pc
   roles_found pc =
       let size : role_bytes * next - role_bytes * w.first ≡ role_bytes * (row_at table w.row).words = omega (arith, stated) in
-      ap₂ (λ (k m : ℕ). role_in (take k (drop (role_bytes * m) roles)) pc) size ready.begins
-      ∙ ready.filled.looked_up w.row there pc
-      ∙ ap (λ (m : ℕ). role_at (proto_in table w.row (drop m (u32s words))) pc) (sym ready.begins)
+      ap₂ (λ (k m : ℕ). role_in (take k (drop (role_bytes * m) roles)) pc) size r.begins
+      ∙ r.filled.looked_up w.row there pc
+      ∙ ap (λ (m : ℕ). role_at (proto_in table w.row (drop m (u32s words))) pc) (sym r.begins)
       ∙ ap (λ (p : Proto). role_at p pc) (sym own_proto)
 
   describes : Describes (proto_in table w.row (u32s word_part)) q word_part role_part

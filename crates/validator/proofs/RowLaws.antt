@@ -13,7 +13,7 @@ use Rattle.opcodes.proofs.TestLaws.{true≢false, or-false, by_cond}
 use Rattle.chunk.proofs.TotalLaws.{words_next}
 use Rattle.verdict.proofs.TreeLaws.{Begins as TestFirst, begins, proto_begins}
 use Rattle.validator.specs.declared.walk.WalkState.{WalkState}
-use Rattle.validator.specs.Steps.{State, emitted, emit, emit_all, ended, tested_of, advance, moved_to, own_steps, onward, step_row, walk_for, walk_to, goes_on}
+use Rattle.validator.specs.Steps.{State, Begins, emitted, emit, emit_all, ended, tested_of, advance, moved_to, own_steps, onward, step_row, walk_for, walk_to, goes_on}
 
 -- a test passes or fails
 either : {P : Type 0} (b : Bool) → (b ≡ true → P) → (b ≡ false → P) → P
@@ -106,10 +106,6 @@ module _ (n : ℕ) (s : State) where
   onward_going : s.0.limit ≡ false → onward n s ≡ (moved_to (s.0.first + n) s.0, s.1)
   unfolding onward
   onward_going e = ap (λ (b : Bool). cond b s (moved_to (s.0.first + n) s.0, s.1)) e
-
--- the walk knows where the words of its next row begin
-abbrev pub Begins : List ℕ → WalkState → Type 0
-Begins table w = w.first ≡ word_total (take w.row (rows table))
 
 -- at most n rows further
 record Moved (s t : State) (n : ℕ) : Type 0 where

@@ -1,8 +1,11 @@
 -- What the code finds at a word, in the terms of the definitions: its operands, its target, its skip. Assumes nothing.
-use Rattle.std.proofs.Common.{◌≡◌, ℕ, suc, ◌+◌, ◌-◌, ◌<◌, ◌≤◌, Bool, true, false, cond, not, ◌&&◌, ltb, leb, List, [], ◌∷◌, ◌++◌, map, length, pos, negsuc, ◌+ℤ◌, ◌-ℤ◌, sym, refl, ap, ◌∙◌, ap₂, arith, ltb-false, ltb-true, le-ltb, lt-ltb}
+use Rattle.std.proofs.Common.{◌≡◌, ℕ, suc, ◌+◌, ◌-◌, ◌<◌, ◌≤◌, Bool, true, false, cond, not, ◌&&◌, ltb, leb, List, [], ◌∷◌, ◌++◌, map, length, pos, negsuc, ◌+ℤ◌, ◌-ℤ◌, sym, refl, ap, ◌∙◌, arith, ltb-false, ltb-true, le-ltb, lt-ltb}
 use mathlib.Core.List.{map-append, flatten}
+use Rattle.std.specs.Bool.{then_some}
+use Rattle.std.specs.Prelude.{Option}
+use Rattle.opcodes.specs.Bytes.{i32_bits}
 use Rattle.opcodes.specs.Lists.{elem, only, keep_if, select}
-use Rattle.opcodes.specs.Words.{Field, B, C, field_bx, is, constant_index, number_of, mode_of, a_is_register, without_a, with_sbx, with_bx}
+use Rattle.opcodes.specs.Words.{B, C, field_bx, number_of, mode_of, with_sbx, with_bx}
 use Rattle.opcodes.specs.declared.Opcode51.{Opcode51}
 use Rattle.opcodes.specs.declared.OpMode51.{OpMode51}
 use Rattle.opcodes.specs.declared.OpMode51.TheVariants.{IABC, IABx, IAsBx}
@@ -12,44 +15,17 @@ use Rattle.chunk.specs.Table.{Proto}
 use Rattle.roles.specs.Terms.{role_in}
 use Rattle.verdict.specs.Diagnostics.{Diagnostic, diagnostic, not_below, target_diagnostics, jump_diagnostics, skip_diagnostics, operand_diagnostics}
 use Rattle.verdict.specs.Operands.{is_jump, target, is_skip, skip_target, constant_bx, upvalue_b, flag_a, register_a, span_ends, register_in, constant_in, child_bx}
-use Rattle.validator.specs.Terms.{Decodes, Limits, Stands, ends, operand_field, names_register, names_constant}
+use Rattle.validator.specs.Terms.{Decodes, Limits, Stands, as_list}
 use Rattle.validator.specs.Steps.{State, emitted, emitted_if, emit_all}
-use Rattle.validator.specs.declared.operands.OperandField.{OperandField}
-use Rattle.validator.specs.declared.operands.Span.{Span}
-use Rattle.validator.specs.declared.operands.Span.TheVariants.{None, To}
 use Rattle.validator.specs.declared.prototype.Prototype.{Prototype}
-use Rattle.validator.proofs.EmitLaws.{emits_none, emits_word, emits_bits, emits_hit, emits_then}
-use Rattle.validator.proofs.OperandLaws.{listed, not_unknown, split_a}
+use Rattle.validator.proofs.EmitLaws.{emits_none, emits_word, emits_bits, emits_only, emits_then}
+use Rattle.validator.proofs.OperandLaws.{listed}
 
 -- ---- operands
 
 -- an operand that was checked, by another name
 pub checked_as : (row pc code limit : ℕ) (xs ys : List ℕ) (s t : State) → t ≡ emit_all row (not_below pc code limit xs) s → xs ≡ ys → t ≡ emit_all row (not_below pc code limit ys) s
 checked_as row pc code limit xs ys s t e q = e ∙ ap (λ (vs : List ℕ). emit_all row (not_below pc code limit vs) s) q
-
--- the opcode is one of a list, and so the word names this
-pub named_by : (op : Opcode51) (w : RawInstruction51) → Decodes op w → (ops : List ℕ) (b : Bool) (v u : ℕ) → b ≡ elem (number_of op) ops → v ≡ u → only b v ≡ only (is w.raw ops) u
-named_by op w d ops b v u e q = ap₂ only (e ∙ listed op w d ops) q
-
--- B or C: the register and the constant that a field names
-module _ (field : OperandField) (f : Field) (w : ℕ) (q : field ≡ operand_field f w) (b : Bool) where
-  pub register_of : b ≡ names_register field → only b field.value ≡ register_in f w
-  unfolding names_register operand_field register_in
-  register_of e = ap₂ only (e ∙ ap names_register q) (ap (λ (x : OperandField). x.value) q)
-
-  pub constant_of : (k : ℕ) → b ≡ names_constant field → k ≡ constant_index field.value → only b k ≡ constant_in f w
-  unfolding names_constant operand_field constant_in
-  constant_of k e g = ap₂ only (e ∙ ap names_constant q) (g ∙ ap (λ (x : OperandField). constant_index x.value) q)
-
--- a span that names nothing, and one that ends
-module _ (row pc limit : ℕ) (span : Span) (s : State) where
-  pub no_span : span ≡ None → s ≡ emit_all row (not_below pc 11 limit (ends span)) s
-  unfolding ends not_below
-  no_span e = rw e (emits_none row s)
-
-  pub span_to : (last : ℕ) (t : State) → span ≡ To last → t ≡ emit_all row (not_below pc 11 limit (only true last)) s → t ≡ emit_all row (not_below pc 11 limit (ends span)) s
-  unfolding ends only
-  span_to last t e f = rw e f
 
 -- two lists of operands under one limit
 select_append : {A : Type 0} (f : A → Bool) (xs ys : List A) → select f (xs ++ ys) ≡ select f xs ++ select f ys
@@ -66,22 +42,17 @@ below_append pc code limit xs ys =
     ap (map (λ v. diagnostic pc code (pos v))) (select_append (λ v. leb limit v) xs ys)
     ∙ map-append (λ v. diagnostic pc code (pos v)) (select (λ v. leb limit v) xs) (select (λ v. leb limit v) ys)
 
--- register A
-pub register_a_lem : (op : Opcode51) (w : RawInstruction51) → Decodes op w → (b : Bool) → b ≡ a_is_register op → only b w.a ≡ register_a w.raw
-unfolding register_a a_is_register
-register_a_lem op w d b e = ap₂ only (e ∙ ap not (listed op w d without_a)) (split_a w d.split) ∙ rw (not_unknown op w d)
-
 -- two spans are those of the word
-pub spans_checked : (row pc limit w : ℕ) (first second : Span) (s t u : State) → ends first ++ ends second ≡ span_ends w
-    → t ≡ emit_all row (not_below pc 11 limit (ends first)) s → u ≡ emit_all row (not_below pc 11 limit (ends second)) t → u ≡ emit_all row (not_below pc 11 limit (span_ends w)) s
+pub spans_checked : (row pc limit w : ℕ) (first second : Option ℕ) (s t u : State) → as_list first ++ as_list second ≡ span_ends w
+    → t ≡ emit_all row (not_below pc 11 limit (as_list first)) s → u ≡ emit_all row (not_below pc 11 limit (as_list second)) t → u ≡ emit_all row (not_below pc 11 limit (span_ends w)) s
 spans_checked row pc limit w first second s t u q e f =
     emits_then row _ _ s t u e f
-    ∙ ap (λ (ds : List Diagnostic). emit_all row ds s) (sym (below_append pc 11 limit (ends first) (ends second)) ∙ ap (not_below pc 11 limit) q)
+    ∙ ap (λ (ds : List Diagnostic). emit_all row ds s) (sym (below_append pc 11 limit (as_list first) (as_list second)) ∙ ap (not_below pc 11 limit) q)
 
 -- all of them, with the limits that the code has
-pub emits_operands : (p : Proto) (q : Prototype) (pc w : ℕ) → Limits p q → (s t : State)
+pub emits_operands : (row : ℕ) (p : Proto) (q : Prototype) (pc w : ℕ) → Limits p q → (s t : State)
     → t
-    ≡ emit_all q.row (flatten (
+    ≡ emit_all row (flatten (
     not_below pc 7 q.constants (constant_bx w)
     ∷ not_below pc 8 q.upvalues (upvalue_b w)
     ∷ not_below pc 9 2 (flag_a w)
@@ -94,9 +65,9 @@ pub emits_operands : (p : Proto) (q : Prototype) (pc w : ℕ) → Limits p q →
     ∷ not_below pc 16 q.children (child_bx w)
     ∷ []
     )) s
-    → t ≡ emit_all q.row (operand_diagnostics p pc w) s
+    → t ≡ emit_all row (operand_diagnostics p pc w) s
 unfolding operand_diagnostics
-emits_operands p q pc w l s t e = rw (l.constants, l.upvalues, l.stack, l.children) e
+emits_operands row p q pc w l s t e = rw (l.constants, l.upvalues, l.stack, l.children) e
 
 -- ---- targets
 
@@ -141,13 +112,13 @@ module _ (row pc sum : ℕ) (p : Proto) (q : Prototype) (roles : List ℕ) (h : 
       rw (le-ltb sum 131071 l, le-ltb (sum - 131071) (length p.code) past) (e ∙ emits_word row pc 5 (sum - 131071) s)
 
   -- at a word
-  pub target_at : 131071 ≤ sum → sum - 131071 < q.words → (b : Bool) → b ≡ not (is_executable (role_in roles (sum - 131071))) → t ≡ emitted_if b row pc 6 (sum - 131071) s
+  pub target_at : 131071 ≤ sum → sum - 131071 < q.words → (b : Bool) → b ≡ not (is_executable (role_in roles (sum - 131071))) → (o : Option ℕ) → o ≡ then_some b (sum - 131071) → t ≡ emitted_if row pc 6 o s
       → t ≡ emit_all row (target_diagnostics p pc (pos sum -ℤ pos 131071)) s
-  unfolding target_diagnostics
-  target_at l m b f e =
+  unfolding target_diagnostics i32_bits
+  target_at l m b f o g e =
       let there : sum - 131071 < length p.code = omega (arith, h.words) in
       let role : b ≡ not (is_executable (role_at p (sum - 131071))) = f ∙ ap (λ (r : Role). not (is_executable r)) (h.roles (sum - 131071)) in
-      rw (le-ltb sum 131071 l, lt-ltb (sum - 131071) (length p.code) there, ← role) (e ∙ emits_hit row pc 6 b (sum - 131071) s)
+      rw (le-ltb sum 131071 l, lt-ltb (sum - 131071) (length p.code) there, ← role) (emits_only row b (diagnostic pc 6 (pos (sum - 131071))) o s t g e)
 
 -- ---- jumps, by the mode of the opcode
 
@@ -173,13 +144,6 @@ module _ (op : Opcode51) (w : RawInstruction51) (d : Decodes op w) (mode : OpMod
       go true q = absurd (m q)
       go false q = refl
 
--- no other mode is that one
-pub not_abc : (mode : OpMode51) → mode ≡ IABC → mode ≡ IAsBx → ⊥
-not_abc mode e f = let z : ◌≡◌ {A = ℕ} 0 1 = cc in absurd (omega arith)
-
-pub not_abx : (mode : OpMode51) → mode ≡ IABx → mode ≡ IAsBx → ⊥
-not_abx mode e f = let z : ◌≡◌ {A = ℕ} 0 1 = cc in absurd (omega arith)
-
 module _ (row pc w : ℕ) (p : Proto) (s : State) where
   -- a word without a target
   pub no_jump : is_jump w ≡ false → s ≡ emit_all row (jump_diagnostics p pc w) s
@@ -192,9 +156,9 @@ module _ (row pc w : ℕ) (p : Proto) (s : State) where
   jump sum t e q f = rw (e, target_sum pc w, ← q) f
 
   -- the skip
-  pub skip : (q : Prototype) (roles : List ℕ) (b : Bool) (t : State) → Stands p q roles → b ≡ is_skip w && not (is_executable (role_in roles (skip_target pc))) → t ≡ emitted_if b row pc 6 (pc + 2) s
+  pub skip : (q : Prototype) (roles : List ℕ) (b : Bool) (t : State) → Stands p q roles → b ≡ is_skip w && not (is_executable (role_in roles (skip_target pc))) → (o : Option ℕ) → o ≡ then_some b (pc + 2) → t ≡ emitted_if row pc 6 o s
       → t ≡ emit_all row (skip_diagnostics p pc w) s
-  unfolding skip_diagnostics skip_target
-  skip q roles b t h e f =
-      f ∙ emits_hit row pc 6 b (pc + 2) s
+  unfolding skip_diagnostics skip_target i32_bits
+  skip q roles b t h e o g f =
+      emits_only row b (diagnostic pc 6 (pos (pc + 2))) o s t g f
       ∙ ap (λ (x : Bool). emit_all row (only x (diagnostic pc 6 (pos (pc + 2)))) s) (e ∙ ap (λ (r : Role). is_skip w && not (is_executable r)) (h.roles (pc + 2)))

@@ -1,9 +1,14 @@
 -- What the fast test of a word knows of its opcode and its prototype: the terms of inner contracts. Assumes nothing: these are definitions.
-use Rattle.std.specs.Prelude.{◌≡◌, ℕ, ◌+◌, ◌/◌, T, List, [], ◌∷◌, pos, ◌-ℤ◌}
+use Rattle.std.specs.Prelude.{◌≡◌, ℕ, ◌+◌, T, List, [], ◌∷◌, pos, ◌-ℤ◌}
 use Rattle.chunk.specs.Roles.{is_executable, role_at}
 use Rattle.chunk.specs.Table.{Proto}
 use Rattle.verdict.specs.Operands.{upvalue_b, flag_a, child_bx}
 use Rattle.verdict.specs.Rules.{Below, Lands, registers_of, constants_of}
+use Rattle.validator.specs.declared.clean.Flow.{Flow}
+use Rattle.validator.specs.declared.clean.Flow.TheVariants.{Next, Target, Past}
+use Rattle.validator.specs.declared.clean.Limit.{Limit}
+use Rattle.validator.specs.declared.clean.Limit.TheVariants.{Nothing, NothingK, Register, RegisterK, Rk, Constant, Upvalue, UpvalueK, Flag, Child}
+use Rattle.validator.specs.declared.clean.Shape.{Shape}
 use Rattle.validator.specs.declared.prototype.Prototype.{Prototype}
 
 -- the limits of operands, by their places: of a field that names nothing, of a register, of an RK operand, of an upvalue (two places each, the second
@@ -11,12 +16,69 @@ use Rattle.validator.specs.declared.prototype.Prototype.{Prototype}
 unfoldable pub limits_of : Prototype → List ℕ
 limits_of q = 262144 ∷ 262144 ∷ q.stack ∷ 0 ∷ q.stack ∷ q.constants ∷ q.upvalues ∷ 0 ∷ 2 ∷ q.children ∷ []
 
--- what each opcode names and where it goes, as the code's table has it
-unfoldable pub shapes : List ℕ
+-- the place of each in this list
+abbrev pub place : Limit → ℕ
+place Nothing = 0
+place NothingK = 1
+place Register = 2
+place RegisterK = 3
+place Rk = 4
+place Constant = 5
+place Upvalue = 6
+place UpvalueK = 7
+place Flag = 8
+place Child = 9
+
+-- what an opcode names and where its word goes: the limits of A, Bx, B and C, the spans that B and C end, and the way
+abbrev pub shape : Limit → Limit → Limit → Limit → ℕ → ℕ → Flow → Shape
+shape a bx b c b_span c_span flow = record { a = a; bx = bx; b = b; c = c; b_span = b_span; c_span = c_span; flow = flow }
+
+-- that of an opcode that names nothing
+abbrev pub names_nothing : Shape
+names_nothing = shape Nothing Nothing Nothing Nothing 0 0 Next
+
+-- that of each opcode, as the code's table has it
+unfoldable pub shapes : List Shape
 shapes =
-    0x202 ∷ 0x52 ∷ 0x4000002 ∷ 0x202 ∷ 0x602 ∷ 0x52 ∷ 0x4202 ∷ 0x52 ∷ 0x602 ∷ 0x4402 ∷ 0x2 ∷ 0x64202 ∷ 0x4402 ∷ 0x4402 ∷ 0x4402 ∷ 0x4402 ∷ 0x4402 ∷ 0x4402 ∷ 0x202
-    ∷ 0x202 ∷ 0x202 ∷ 0x2202 ∷ 0x1000000 ∷ 0x4004408 ∷ 0x4004408 ∷ 0x4004408 ∷ 0x4000002 ∷ 0x4000202 ∷ 0x130002 ∷ 0x30002 ∷ 0x10002 ∷ 0x10a0002
-    ∷ 0x10a0002 ∷ 0x4900002 ∷ 0x50002 ∷ 0x2 ∷ 0x2000092 ∷ 0x10002 ∷ []
+    shape Register Nothing Register Nothing 0 0 Next  -- MOVE
+    ∷ shape Register Constant Nothing Nothing 0 0 Next  -- LOADK
+    ∷ shape Register Nothing Nothing Nothing 0 0 (Past 2)  -- LOADBOOL
+    ∷ shape Register Nothing Register Nothing 0 0 Next  -- LOADNIL
+    ∷ shape Register Nothing Upvalue Nothing 0 0 Next  -- GETUPVAL
+    ∷ shape Register Constant Nothing Nothing 0 0 Next  -- GETGLOBAL
+    ∷ shape Register Nothing Register Rk 0 0 Next  -- GETTABLE
+    ∷ shape Register Constant Nothing Nothing 0 0 Next  -- SETGLOBAL
+    ∷ shape Register Nothing Upvalue Nothing 0 0 Next  -- SETUPVAL
+    ∷ shape Register Nothing Rk Rk 0 0 Next  -- SETTABLE
+    ∷ shape Register Nothing Nothing Nothing 0 0 Next  -- NEWTABLE
+    ∷ shape Register Nothing Register Rk 6 0 Next  -- SELF
+    ∷ shape Register Nothing Rk Rk 0 0 Next  -- ADD
+    ∷ shape Register Nothing Rk Rk 0 0 Next  -- SUB
+    ∷ shape Register Nothing Rk Rk 0 0 Next  -- MUL
+    ∷ shape Register Nothing Rk Rk 0 0 Next  -- DIV
+    ∷ shape Register Nothing Rk Rk 0 0 Next  -- MOD
+    ∷ shape Register Nothing Rk Rk 0 0 Next  -- POW
+    ∷ shape Register Nothing Register Nothing 0 0 Next  -- UNM
+    ∷ shape Register Nothing Register Nothing 0 0 Next  -- NOT
+    ∷ shape Register Nothing Register Nothing 0 0 Next  -- LEN
+    ∷ shape Register Nothing Register Register 0 0 Next  -- CONCAT
+    ∷ shape Nothing Nothing Nothing Nothing 0 0 Target  -- JMP
+    ∷ shape Flag Nothing Rk Rk 0 0 (Past 2)  -- EQ
+    ∷ shape Flag Nothing Rk Rk 0 0 (Past 2)  -- LT
+    ∷ shape Flag Nothing Rk Rk 0 0 (Past 2)  -- LE
+    ∷ shape Register Nothing Nothing Nothing 0 0 (Past 2)  -- TEST
+    ∷ shape Register Nothing Register Nothing 0 0 (Past 2)  -- TESTSET
+    ∷ shape Register Nothing Nothing Nothing 3 1 Next  -- CALL
+    ∷ shape Register Nothing Nothing Nothing 3 0 Next  -- TAILCALL
+    ∷ shape Register Nothing Nothing Nothing 1 0 Next  -- RETURN
+    ∷ shape Register Nothing Nothing Nothing 10 0 Target  -- FORLOOP
+    ∷ shape Register Nothing Nothing Nothing 10 0 Target  -- FORPREP
+    ∷ shape Register Nothing Nothing Nothing 0 9 (Past 2)  -- TFORLOOP
+    ∷ shape Register Nothing Nothing Nothing 5 0 Next  -- SETLIST
+    ∷ shape Register Nothing Nothing Nothing 0 0 Next  -- CLOSE
+    ∷ shape Register Child Nothing Nothing 0 0 (Past 1)  -- CLOSURE
+    ∷ shape Register Nothing Nothing Nothing 1 0 Next  -- VARARG
+    ∷ []
 
 -- all operands that a word names are below these limits
 pub record OperandsBelow (q : Prototype) (w : ℕ) : Type 0 where
@@ -26,7 +88,7 @@ pub record OperandsBelow (q : Prototype) (w : ℕ) : Type 0 where
   pub register : Below q.stack (registers_of w)
   pub child : Below q.children (child_bx w)
 
--- where a word of this flow goes: 1 to its target, 2 past companions that it may own, 4 over the next word; 0 to the next word alone
-pub record FlowKept (p : Proto) (flow pc bx : ℕ) : Type 0 where
-  pub target : flow ≡ 1 → Lands p (pos (pc + 1 + bx) -ℤ pos 131071)
-  pub ahead : (k : ℕ) → flow ≡ 2 + k → T (is_executable (role_at p (pc + flow / 2)))
+-- where a word of this flow goes: to its target, or past companions that it may own or the next word; otherwise to the next word alone
+pub record FlowKept (p : Proto) (flow : Flow) (pc bx : ℕ) : Type 0 where
+  pub target : flow ≡ Target → Lands p (pos (pc + 1 + bx) -ℤ pos 131071)
+  pub ahead : (k : ℕ) → flow ≡ Past k → T (is_executable (role_at p (pc + k)))

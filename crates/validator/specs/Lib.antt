@@ -1,3 +1,4 @@
 pub mod Clean
 pub mod Terms
+pub mod Rows
 pub mod Steps

@@ -1,6 +1,6 @@
 -- What the walk's state and the diagnostics buffer are after each step of the code: the terms of inner contracts. The call's own contract cites none of
 -- them. Assumes nothing: these are definitions.
-use Rattle.std.specs.Prelude.{◌≡◌, ℕ, zero, suc, ◌+◌, ◌-◌, ◌*◌, ◌/◌, ◌%◌, ◌^◌, ◌<◌, ◌≤◌, Bool, true, false, cond, not, ◌&&◌, ◌||◌, List, [], ◌∷◌, length, take, drop, ◌==◌, nat_le, nat_lt}
+use Rattle.std.specs.Prelude.{◌≡◌, ℕ, zero, suc, ◌+◌, ◌-◌, ◌*◌, ◌/◌, ◌%◌, ◌^◌, ◌<◌, ◌≤◌, Bool, true, cond, not, ◌&&◌, ◌||◌, List, [], ◌∷◌, length, take, drop, Option, Some, None, ◌==◌, nat_le, nat_lt}
 use mathlib.Core.List.{foldl}
 use Rattle.std.proofs.Math.Option.{none}
 use Rattle.opcodes.specs.Bytes.{u32s, u32_record, i32_bits, i32_record, overwrite}
@@ -34,10 +34,10 @@ emitted row pc code value s = (
   overwrite s.1 (diagnostic_bytes * s.0.count) (u32_record (row ∷ pc ∷ code ∷ value ∷ [])),
 )
 
--- one added where its condition holds
-unfoldable pub emitted_if : Bool → ℕ → ℕ → ℕ → ℕ → State → State
-emitted_if true row pc code value s = emitted row pc code value s
-emitted_if false row pc code value s = s
+-- one added where it has a value
+unfoldable pub emitted_if : ℕ → ℕ → ℕ → Option ℕ → State → State
+emitted_if row pc code None s = s
+emitted_if row pc code (Some value) s = emitted row pc code value s
 
 -- one of a row
 unfoldable pub emit : ℕ → State → Diagnostic → State
@@ -102,10 +102,9 @@ pub record Filled (table words roles : List ℕ) : Type 0 where
       → role_in (take (role_bytes * (row_at table i).words) (drop (role_bytes * word_total (take i (rows table))) roles)) pc
       ≡ role_at (proto_in table i (drop (word_total (take i (rows table))) (u32s words))) pc
 
--- and the walk knows where the words of its next row begin
-pub record Ready (table words roles : List ℕ) (w : WalkState) : Type 0 where
-  pub filled : Filled table words roles
-  pub begins : w.first ≡ word_total (take w.row (rows table))
+-- the walk knows where the words of its next row begin
+abbrev pub Begins : List ℕ → WalkState → Type 0
+Begins table w = w.first ≡ word_total (take w.row (rows table))
 
 -- ---- the end of the walk
 

@@ -1,8 +1,8 @@
 -- What the code's own types stand for: the terms in which its contracts cite the definitions of `verdict`. Assumes nothing: these are definitions.
-use Rattle.std.specs.Prelude.{◌≡◌, ℕ, suc, ◌+◌, ◌/◌, ◌<◌, ◌≤◌, Bool, not, ◌&&◌, ◌||◌, List, [], ◌∷◌, length, drop, pos, nat_lt, slice_index, slice_index_or}
+use Rattle.std.specs.Prelude.{◌≡◌, ℕ, suc, ◌+◌, ◌/◌, ◌<◌, ◌≤◌, ◌||◌, List, [], ◌∷◌, length, drop, pos, nat_lt, slice_index, slice_index_or, Option, Some, None, Result, Ok, Err}
 use Rattle.std.proofs.Math.Option.{none}
 use Rattle.opcodes.specs.Bytes.{u32s}
-use Rattle.opcodes.specs.Words.{Field, operand, is, is_constant, decoded}
+use Rattle.opcodes.specs.Words.{decoded}
 use Rattle.opcodes.specs.declared.Opcode51.{Opcode51}
 use Rattle.opcodes.specs.declared.OpcodeField.TheVariants.{Known}
 use Rattle.opcodes.specs.declared.RawInstruction51.{RawInstruction51}
@@ -11,19 +11,19 @@ use Rattle.chunk.specs.Roles.{Role, Instruction, ClosureBinding, SetlistExtra, r
 use Rattle.chunk.specs.Refusals.{bad_depth, max_rows}
 use Rattle.chunk.specs.Calls.{Answer, refused, accepted}
 use Rattle.roles.specs.Terms.{refused_of, role_in}
+use Rattle.roles.specs.declared.refusals.Refusal.{Refusal}
 use Rattle.verdict.specs.Diagnostics.{Diagnostic, diagnostic}
 use Rattle.verdict.specs.Walk.{Verdict, ValidForParser, Incomplete, Invalid, max_diagnostics, verdict_of}
 use Rattle.verdict.specs.Image.{Image}
 use Rattle.verdict.specs.Check.{Checked}
 use Rattle.validator.specs.declared.calls.Validation.{Validation}
-use Rattle.validator.specs.declared.calls.Validation.TheVariants as validation
 use Rattle.validator.specs.declared.calls.Verdict.{Verdict as VerdictCode}
 use Rattle.validator.specs.declared.calls.Verdict.TheVariants as code
+use Rattle.validator.specs.declared.codes.Code.{Code}
+use Rattle.validator.specs.declared.codes.Code.TheVariants as diagnosed
 use Rattle.validator.specs.declared.fault.Lua51RoleFault.{Lua51RoleFault}
 use Rattle.validator.specs.declared.fault.Lua51RoleFault.TheVariants as fault
-use Rattle.validator.specs.declared.operands.OperandField.{OperandField}
-use Rattle.validator.specs.declared.operands.Span.{Span}
-use Rattle.validator.specs.declared.operands.Span.TheVariants as span
+use Rattle.validator.specs.declared.image.Image.{Image as ImageCode}
 use Rattle.validator.specs.declared.prototype.Prototype.{Prototype}
 use Rattle.validator.specs.declared.walk.WalkState.{WalkState}
 
@@ -33,16 +33,24 @@ use Rattle.validator.specs.declared.walk.WalkState.{WalkState}
 abbrev pub image_of : List ℕ → List ℕ → ℕ → ℕ → Image
 image_of table words warnings errors = record { table = table; words = words; warnings = warnings; errors = errors }
 
+-- as the code holds it
+abbrev pub image_in : ImageCode → Image
+image_in i = image_of i.protos.now i.words.now i.warnings i.errors
+
 -- a verdict
 unfoldable pub verdict_in : VerdictCode → Verdict
 verdict_in code.ValidForParser = ValidForParser
 verdict_in code.Incomplete = Incomplete
 verdict_in code.Invalid = Invalid
 
+-- the verdict and the number of diagnostics
+unfoldable pub checked_in : Validation → Checked
+checked_in v = record { verdict = verdict_in v.verdict; count = v.count }
+
 -- the call's answer
-unfoldable pub answer_of : Validation → Answer Checked
-answer_of (validation.Refused r) = refused (refused_of r)
-answer_of (validation.Checked v n) = accepted (record { verdict = verdict_in v; count = n })
+unfoldable pub answer_of : Result Validation Refusal → Answer Checked
+answer_of (Err r) = refused (refused_of r)
+answer_of (Ok v) = accepted (checked_in v)
 
 -- what a walk that has ended says
 unfoldable pub concluded : ℕ → ℕ → WalkState → Checked
@@ -51,6 +59,28 @@ concluded warnings errors w =
       verdict = verdict_of (nat_lt 0 errors || w.error) (w.limit || nat_lt max_diagnostics (warnings + errors + w.count));
       count = w.count;
     }
+
+-- ---- diagnostics
+
+-- the number of a code in document 01's table
+abbrev pub code_number : Code → ℕ
+code_number diagnosed.Closure001 = 1
+code_number diagnosed.Setlist001 = 2
+code_number diagnosed.Stack001 = 3
+code_number diagnosed.Op001 = 4
+code_number diagnosed.Jmp001 = 5
+code_number diagnosed.Jmp002 = 6
+code_number diagnosed.Const003 = 7
+code_number diagnosed.Upval001 = 8
+code_number diagnosed.Bool001 = 9
+code_number diagnosed.Reg001 = 10
+code_number diagnosed.RegSpan001 = 11
+code_number diagnosed.Reg002 = 12
+code_number diagnosed.Reg003 = 13
+code_number diagnosed.Const004 = 14
+code_number diagnosed.Const005 = 15
+code_number diagnosed.Proto002 = 16
+code_number diagnosed.Closure002 = 17
 
 -- ---- a prototype
 
@@ -116,22 +146,10 @@ pub record Decodes (op : Opcode51) (w : RawInstruction51) : Type 0 where
   pub split : w ≡ decoded w.raw
   pub known : w.opcode ≡ Known op
 
--- the last register of a span
-unfoldable pub ends : Span → List ℕ
-ends span.None = []
-ends (span.To last) = last ∷ []
-
--- field B or C of a word
-unfoldable pub operand_field : Field → ℕ → OperandField
-operand_field f w = record { fixed = is w f.fixed; rk = is w f.rk; value = operand f w }
-
--- it names a register
-unfoldable pub names_register : OperandField → Bool
-names_register f = f.fixed || f.rk && not (is_constant f.value)
-
--- it names a constant
-unfoldable pub names_constant : OperandField → Bool
-names_constant f = f.rk && is_constant f.value
+-- what a word names, as the list of `verdict`'s definitions: none or one
+abbrev pub as_list : Option ℕ → List ℕ
+as_list None = []
+as_list (Some v) = v ∷ []
 
 -- ---- truncated owners
 
@@ -142,7 +160,7 @@ last_owner pc (ClosureBinding owner index) = owner
 last_owner pc (SetlistExtra owner) = owner
 
 -- codes 1 and 2
-unfoldable pub fault_diagnostics : Lua51RoleFault → List Diagnostic
-fault_diagnostics fault.None = []
-fault_diagnostics (fault.TruncatedClosure pc upvalues) = diagnostic pc 1 (pos upvalues) ∷ []
-fault_diagnostics (fault.TruncatedSetlist pc) = diagnostic pc 2 (pos 0) ∷ []
+unfoldable pub fault_diagnostics : Option Lua51RoleFault → List Diagnostic
+fault_diagnostics None = []
+fault_diagnostics (Some (fault.TruncatedClosure pc upvalues)) = diagnostic pc 1 (pos upvalues) ∷ []
+fault_diagnostics (Some (fault.TruncatedSetlist pc)) = diagnostic pc 2 (pos 0) ∷ []

@@ -1,6 +1,7 @@
 // Words without a diagnostic are found fast: what an opcode names is looked up in a table, so that only whether it is known and where the word
 // goes make branches that depend on it, and the walk's state is not touched. A word that is not found clean is judged by `word`, whether it has
-// diagnostics or not.
+// diagnostics or not. (The functions of `operands` make branches that depend on the opcode: the check took 19.5 ns a word without the table and
+// 9.3 with it, and a transcription with those functions 21.8, with the table 14.9.)
 ghost use Rattle.std.specs.Prelude.{◌≡◌, ℕ, ◌+◌, ◌*◌, ◌/◌, ◌%◌, ◌<◌, ◌≤◌, true, false, [], length, pos, ◌-ℤ◌, nat_le, nat_lt, slice_index, slice_index_or};
 ghost use Rattle.opcodes.specs.Bytes.{u32_at};
 ghost use Rattle.opcodes.specs.Words.{decoded};
@@ -10,75 +11,236 @@ ghost use Rattle.chunk.specs.Table.{Proto};
 ghost use Rattle.verdict.specs.Diagnostics.{diagnostics_at};
 ghost use Rattle.verdict.specs.Rules.{Lands};
 ghost use Rattle.validator.specs.Terms.{Describes, Stands};
-ghost use Rattle.validator.specs.Clean.{FlowKept, OperandsBelow, limits_of, shapes};
+ghost use Rattle.validator.specs.Clean.{FlowKept, OperandsBelow, limits_of, names_nothing, place, shapes};
 
-use crate::prototype::Prototype;
-use crate::word::is_companion;
+use crate::prototype::Body;
+use crate::word::{LAST_OPCODE, OFFSET_SBX, is_companion};
 use opcodes::RawInstruction51;
 use opcodes::bytes::read_u32;
-
-// What Bx has more than sBx.
-const OFFSET_SBX: u32 = 131071;
-
-const LAST_OPCODE: u8 = 37;
 
 // Above every field of a word.
 const NO_LIMIT: u32 = 262144;
 
-// What each opcode names and where it goes, four bits each from the lowest on.
-// The limits of A, Bx, B and C, as places in the list of limits: 0 names nothing, 2 a register, 4 an RK operand, 6 an upvalue, 8 a flag, 9 a child.
-// A B or C of 256 or more has the next place: 5 is the number of constants, which a Bx that names a constant has itself, 3 and 7 are 0.
-// The spans that B and C end: 2 * n + 1 ends at register A + n - 2 + the field, 2 * n at A + n - 2; 0 is none.
-// Where it goes: 0 to the next word, 1 to its target, 2 past companions that it may own, 4 over the next word; half of 2 and 4 is how far.
-// So of CALL, 0x13_0002, A is a register, B ends a span at A + 1 - 2 + B, and C one at A + 0 - 2 + C.
-const SHAPES: [u32; 38] = [
-    0x202, // MOVE
-    0x52, // LOADK
-    0x400_0002, // LOADBOOL
-    0x202, // LOADNIL
-    0x602, // GETUPVAL
-    0x52, // GETGLOBAL
-    0x4202, // GETTABLE
-    0x52, // SETGLOBAL
-    0x602, // SETUPVAL
-    0x4402, // SETTABLE
-    0x2, // NEWTABLE
-    0x6_4202, // SELF
-    0x4402, // ADD
-    0x4402, // SUB
-    0x4402, // MUL
-    0x4402, // DIV
-    0x4402, // MOD
-    0x4402, // POW
-    0x202, // UNM
-    0x202, // NOT
-    0x202, // LEN
-    0x2202, // CONCAT
-    0x100_0000, // JMP
-    0x400_4408, // EQ
-    0x400_4408, // LT
-    0x400_4408, // LE
-    0x400_0002, // TEST
-    0x400_0202, // TESTSET
-    0x13_0002, // CALL
-    0x3_0002, // TAILCALL
-    0x1_0002, // RETURN
-    0x10a_0002, // FORLOOP
-    0x10a_0002, // FORPREP
-    0x490_0002, // TFORLOOP
-    0x5_0002, // SETLIST
-    0x2, // CLOSE
-    0x200_0092, // CLOSURE
-    0x1_0002, // VARARG
+// The limits of operands, in the order of the list of limits: of a field that names nothing, of a register, of an RK operand, of a constant, of an
+// upvalue, of a flag, of a child. A B or C of 256 or more, which has the bit of a constant, has the next limit: that of an RK operand is a constant's.
+#[derive(Clone, Copy)]
+enum Limit {
+    Nothing,
+    NothingK,
+    Register,
+    RegisterK,
+    Rk,
+    Constant,
+    Upvalue,
+    UpvalueK,
+    Flag,
+    Child,
+}
+
+impl Limit {
+    // Its place in the list.
+    fn place(self) -> usize
+        ensures { result ≡ place self }
+    {
+        self as usize
+    }
+}
+
+// Where a word goes: to the next word alone; to its target; or past companions that it may own, or the next word, to the word so many ahead, which has to
+// be executable.
+#[derive(Clone, Copy)]
+enum Flow {
+    Next,
+    Target,
+    Past(u8),
+}
+
+// What an opcode names, and where its word goes: the limits of A, Bx, B and C, and the spans that B and C end: 2 * n + 1 ends at register
+// A + n - 2 + the field, 2 * n at A + n - 2; 0 is none. (A span is one number so that a shape has eight bytes: with a start and a flag for each the
+// check took 4 % longer on words without diagnostics than with shapes packed in a u32, in this form 2 % less.)
+#[derive(Clone, Copy)]
+struct Shape {
+    a: Limit,
+    bx: Limit,
+    b: Limit,
+    c: Limit,
+    b_span: u8,
+    c_span: u8,
+    flow: Flow,
+}
+
+// Register A alone, and on to the next word.
+const A: Shape = Shape {
+    a: Limit::Register,
+    bx: Limit::Nothing,
+    b: Limit::Nothing,
+    c: Limit::Nothing,
+    b_span: 0,
+    c_span: 0,
+    flow: Flow::Next,
+};
+
+// Registers A and B.
+const A_B: Shape = Shape {
+    b: Limit::Register,
+    ..A
+};
+
+// Registers A, B and C.
+const A_B_C: Shape = Shape {
+    c: Limit::Register,
+    ..A_B
+};
+
+// Registers A and B, and the RK operand C.
+const A_B_RK: Shape = Shape {
+    c: Limit::Rk,
+    ..A_B
+};
+
+// Register A, and the RK operands B and C.
+const A_RK_RK: Shape = Shape {
+    b: Limit::Rk,
+    c: Limit::Rk,
+    ..A
+};
+
+// Register A, and the constant Bx.
+const A_CONSTANT: Shape = Shape {
+    bx: Limit::Constant,
+    ..A
+};
+
+// Register A, and the upvalue B.
+const A_UPVALUE: Shape = Shape {
+    b: Limit::Upvalue,
+    ..A
+};
+
+// Register A, and over the next word.
+const A_SKIP: Shape = Shape {
+    flow: Flow::Past(2),
+    ..A
+};
+
+// Registers A and B, and over the next word.
+const A_B_SKIP: Shape = Shape {
+    flow: Flow::Past(2),
+    ..A_B
+};
+
+// A flag in A, the RK operands B and C, and over the next word.
+const COMPARISON: Shape = Shape {
+    a: Limit::Flag,
+    flow: Flow::Past(2),
+    ..A_RK_RK
+};
+
+// Nothing, and to the target.
+const JUMP: Shape = Shape {
+    a: Limit::Nothing,
+    flow: Flow::Target,
+    ..A
+};
+
+// Registers A to A + 3, and to the target.
+const NUMERIC_FOR: Shape = Shape {
+    b_span: 2 * 5,
+    flow: Flow::Target,
+    ..A
+};
+
+// Registers A to A + 2 + C, and over the next word.
+const GENERIC_FOR: Shape = Shape {
+    c_span: 2 * 4 + 1,
+    flow: Flow::Past(2),
+    ..A
+};
+
+// Registers A and B, register A + 1, and the RK operand C.
+const METHOD: Shape = Shape {
+    b_span: 2 * 3,
+    ..A_B_RK
+};
+
+// Registers A to A - 1 + B.
+const ARGUMENTS: Shape = Shape {
+    b_span: 2 * 1 + 1,
+    ..A
+};
+
+// Registers A to A - 1 + B, and A to A - 2 + C.
+const CALL: Shape = Shape {
+    c_span: 1,
+    ..ARGUMENTS
+};
+
+// Registers A to A - 2 + B.
+const VALUES: Shape = Shape { b_span: 1, ..A };
+
+// Registers A to A + B.
+const ELEMENTS: Shape = Shape {
+    b_span: 2 * 2 + 1,
+    ..A
+};
+
+// Register A, the child Bx, and past one binding word.
+const CHILD: Shape = Shape {
+    bx: Limit::Child,
+    flow: Flow::Past(1),
+    ..A
+};
+
+// What each opcode names and where its word goes. (It is a static, since a constant is copied to the stack where it is named.)
+static SHAPES: [Shape; 38] = [
+    A_B, // MOVE
+    A_CONSTANT, // LOADK
+    A_SKIP, // LOADBOOL
+    A_B, // LOADNIL
+    A_UPVALUE, // GETUPVAL
+    A_CONSTANT, // GETGLOBAL
+    A_B_RK, // GETTABLE
+    A_CONSTANT, // SETGLOBAL
+    A_UPVALUE, // SETUPVAL
+    A_RK_RK, // SETTABLE
+    A, // NEWTABLE
+    METHOD, // SELF
+    A_RK_RK, // ADD
+    A_RK_RK, // SUB
+    A_RK_RK, // MUL
+    A_RK_RK, // DIV
+    A_RK_RK, // MOD
+    A_RK_RK, // POW
+    A_B, // UNM
+    A_B, // NOT
+    A_B, // LEN
+    A_B_C, // CONCAT
+    JUMP, // JMP
+    COMPARISON, // EQ
+    COMPARISON, // LT
+    COMPARISON, // LE
+    A_SKIP, // TEST
+    A_B_SKIP, // TESTSET
+    CALL, // CALL
+    ARGUMENTS, // TAILCALL
+    VALUES, // RETURN
+    NUMERIC_FOR, // FORLOOP
+    NUMERIC_FOR, // FORPREP
+    GENERIC_FOR, // TFORLOOP
+    ELEMENTS, // SETLIST
+    A, // CLOSE
+    CHILD, // CLOSURE
+    VALUES, // VARARG
 ];
 
 // The first pc from `from` on whose word is not found clean, or the number of words. It is that of an executable word.
-pub fn next_suspect(proto: Prototype, code: &[u8], roles: &[u8], from: usize) -> usize
-    requires { (from ≤ length code.now / 4) × (length code.now ≤ max_word_bytes) × (length roles.now ≤ 2 * max_word_bytes) }
-    ensures in_range { (from ≤ result) × (result ≤ length code.now / 4) }
-    ensures clean { (p : Proto) → Describes p proto code.now roles.now → (pc : ℕ) → from ≤ pc → pc < result → diagnostics_at p pc ≡ [] }
-    ensures executable { result < length code.now / 4 → (p : Proto) → Describes p proto code.now roles.now → Executable p result }
+pub fn next_suspect(body: &Body, from: usize) -> usize
+    requires { from ≤ length body.now.code.now / 4 }
+    ensures in_range { (from ≤ result) × (result ≤ length body.now.code.now / 4) }
+    ensures clean { (p : Proto) → Describes p body.now.proto body.now.code.now body.now.roles.now → (pc : ℕ) → from ≤ pc → pc < result → diagnostics_at p pc ≡ [] }
+    ensures executable { result < length body.now.code.now / 4 → (p : Proto) → Describes p body.now.proto body.now.code.now body.now.roles.now → Executable p result }
 {
+    let proto = body.proto;
     let limits = [
         NO_LIMIT,
         NO_LIMIT,
@@ -91,47 +253,63 @@ pub fn next_suspect(proto: Prototype, code: &[u8], roles: &[u8], from: usize) ->
         2,
         proto.children,
     ];
-    let table = SHAPES;
-    let n = code.len() / 4;
-    let mut pc = from;
-    while pc < n {
-        if !is_clean(proto, &limits, &table, code, roles, pc) {
+    let test = CleanTest {
+        body,
+        limits: &limits,
+    };
+    let n = body.code.len() / 4;
+    for pc in from..n {
+        if !test.is_clean(pc) {
             return pc;
         }
-        pc += 1;
     }
-    pc
+    n
 }
 
-// Whether the word at pc is a companion or is found clean. The table is lent, since one that is named here would be copied for each word.
-fn is_clean(
-    proto: Prototype,
-    limits: &[u32],
-    table: &[u32],
-    code: &[u8],
-    roles: &[u8],
-    pc: usize,
-) -> bool
-    requires in_range { (pc < length code.now / 4) × (length code.now ≤ max_word_bytes) × (length roles.now ≤ 2 * max_word_bytes) }
-    requires tables { (limits.now ≡ limits_of proto) × (table.now ≡ shapes) }
-    ensures clean { (p : Proto) → Describes p proto code.now roles.now → result ≡ true → diagnostics_at p pc ≡ [] }
-    ensures executable { (p : Proto) → Describes p proto code.now roles.now → result ≡ false → Executable p pc }
-{
-    if is_companion(roles, pc) {
-        return true;
-    }
-    let w = RawInstruction51::decode(word_at(code, pc));
-    if LAST_OPCODE < w.opcode_num {
-        return false;
-    }
-    let shape = table[w.opcode_num as usize];
-    if !operands_below(proto, limits, shape, w) {
-        return false;
-    }
-    goes_to_word(proto, roles, shape / 0x100_0000, pc as u32, w.bx)
+// What the test of each word looks at: its prototype's words and roles, and the limits by their places.
+#[derive(Clone, Copy)]
+struct CleanTest<'a> {
+    body: &'a Body<'a>,
+    limits: &'a [u32],
+    ghost limits_of_body: { limits.now ≡ limits_of body.now.proto },
 }
 
-// The word at pc. (Of a part of four bytes the compiler drops the test for room.)
+impl<'a> CleanTest<'a> {
+    // Whether the word at pc is a companion or is found clean.
+    fn is_clean(&self, pc: usize) -> bool
+        requires { pc < length self.now.body.now.code.now / 4 }
+        ensures clean { (p : Proto) → Describes p self.now.body.now.proto self.now.body.now.code.now self.now.body.now.roles.now → result ≡ true → diagnostics_at p pc ≡ [] }
+        ensures executable { (p : Proto) → Describes p self.now.body.now.proto self.now.body.now.code.now self.now.body.now.roles.now → result ≡ false → Executable p pc }
+    {
+        let body = self.body;
+        if is_companion(body.roles, pc) {
+            return true;
+        }
+        let w = RawInstruction51::decode(word_at(body.code, pc));
+        if LAST_OPCODE < w.opcode_num {
+            return false;
+        }
+        let shape = SHAPES[w.opcode_num as usize];
+        self.operands_below(shape, w) && goes_to_word(body, shape.flow, pc as u32, w.bx)
+    }
+
+    // Whether all that the word names is below its limit.
+    fn operands_below(&self, shape: Shape, w: RawInstruction51) -> bool
+        requires { (w ≡ decoded w.raw) × (w.opcode_num < 38) × (shape ≡ slice_index_or shapes w.opcode_num names_nothing) }
+        ensures { result ≡ true → OperandsBelow self.now.body.now.proto w.raw }
+    {
+        let limits = self.limits;
+        let stack = self.body.proto.stack;
+        is_below(limits, shape.a, w.a as u32)
+            && is_below(limits, shape.bx, w.bx)
+            && field_below(limits, shape.b, w.b)
+            && field_below(limits, shape.c, w.c)
+            && span_below(stack, shape.b_span, w.a, w.b)
+            && span_below(stack, shape.c_span, w.a, w.c)
+    }
+}
+
+// The word at pc. (Of a part of four bytes the compiler drops the test for room. `roles` has the same function, not exported, since it has a `requires`.)
 fn word_at(code: &[u8], pc: usize) -> u32
     requires { 4 * pc + 4 ≤ length code.now }
     ensures { result ≡ u32_at code.now (4 * pc) }
@@ -139,77 +317,52 @@ fn word_at(code: &[u8], pc: usize) -> u32
     read_u32(&code[4 * pc..4 * pc + 4], 0)
 }
 
-// Whether all that the word names is below its limit.
-fn operands_below(proto: Prototype, limits: &[u32], shape: u32, w: RawInstruction51) -> bool
-    requires { (limits.now ≡ limits_of proto) × (w ≡ decoded w.raw) × (w.opcode_num < 38) × (shape ≡ slice_index_or shapes w.opcode_num 0) }
-    ensures { result ≡ true → OperandsBelow proto w.raw }
+// Whether a value is below this limit.
+fn is_below(limits: &[u32], limit: Limit, value: u32) -> bool
+    requires { place limit < length limits.now }
+    ensures { result ≡ nat_lt value (slice_index limits.now (place limit)) }
 {
-    if !is_below(limits, shape % 16, w.a as u32) {
-        return false;
-    }
-    if !is_below(limits, shape / 16 % 16, w.bx) {
-        return false;
-    }
-    if !field_below(limits, shape / 256 % 16, w.b) {
-        return false;
-    }
-    if !field_below(limits, shape / 4096 % 16, w.c) {
-        return false;
-    }
-    if !span_below(proto.stack, shape / 0x1_0000 % 16, w.a, w.b) {
-        return false;
-    }
-    span_below(proto.stack, shape / 0x10_0000 % 16, w.a, w.c)
-}
-
-// Whether a value is below the limit in this place.
-fn is_below(limits: &[u32], place: u32, value: u32) -> bool
-    requires { place < length limits.now }
-    ensures { result ≡ nat_lt value (slice_index limits.now place) }
-{
-    value < limits[place as usize]
+    value < limits[limit.place()]
 }
 
 // B or C: a value that has the bit of a constant has the next place.
-fn field_below(limits: &[u32], place: u32, value: u16) -> bool
-    requires { (place < 16) × (place + 1 < length limits.now) × (value < 512) }
-    ensures { result ≡ nat_lt (value % 256) (slice_index limits.now (place + value / 256)) }
+fn field_below(limits: &[u32], limit: Limit, value: u16) -> bool
+    requires { (place limit + 1 < length limits.now) × (value < 512) }
+    ensures { result ≡ nat_lt (value % 256) (slice_index limits.now (place limit + value / 256)) }
 {
-    is_below(limits, place + (value / 256) as u32, (value % 256) as u32)
+    ((value % 256) as u32) < limits[limit.place() + (value / 256) as usize]
 }
 
-// Whether register A + span / 2 - 2, and `count` more where span is odd, is below the stack.
-fn span_below(stack: u32, span: u32, a: u8, count: u16) -> bool
-    requires { span < 16 }
-    ensures { result ≡ nat_le (a + span / 2 + span % 2 * count) (stack + 1) }
+// Whether the span that a field of this value ends is below the stack.
+fn span_below(stack: u32, span: u8, a: u8, value: u16) -> bool
+    ensures { result ≡ nat_le (a + span / 2 + span % 2 * value) (stack + 1) }
 {
-    ((a as u32) + span / 2 + span % 2 * (count as u32)) as u64 <= (stack as u64) + 1
+    ((a as u32) + (span / 2) as u32 + (span % 2) as u32 * (value as u32)) as u64
+        <= (stack as u64) + 1
 }
 
 // Whether the word has no target or an executable one, and skips to no companion and owns none.
-fn goes_to_word(proto: Prototype, roles: &[u8], flow: u32, pc: u32, bx: u32) -> bool
-    requires { (flow < 16) × (4 * pc < max_word_bytes) × (bx < 262144) }
-    ensures { (p : Proto) → Stands p proto roles.now → result ≡ true → FlowKept p flow pc bx }
+fn goes_to_word(body: &Body, flow: Flow, pc: u32, bx: u32) -> bool
+    requires { (4 * pc < max_word_bytes) × (bx < 262144) }
+    ensures { (p : Proto) → Stands p body.now.proto body.now.roles.now → result ≡ true → FlowKept p flow pc bx }
 {
-    if flow == 0 {
-        return true;
+    match flow {
+        Flow::Next => true,
+        Flow::Target => target_is_word(body, pc + 1 + bx),
+        Flow::Past(words) => !is_companion(body.roles, (pc + words as u32) as usize),
     }
-    if flow == 1 {
-        return target_is_word(proto, roles, pc + 1 + bx);
-    }
-    !is_companion(roles, (pc + flow / 2) as usize)
 }
 
 // Whether an executable word stands at a target that is so much, less the offset of sBx.
-fn target_is_word(proto: Prototype, roles: &[u8], sum: u32) -> bool
-    ensures { (p : Proto) → Stands p proto roles.now → result ≡ true → Lands p (pos sum -ℤ pos 131071) }
+fn target_is_word(body: &Body, sum: u32) -> bool
+    ensures { (p : Proto) → Stands p body.now.proto body.now.roles.now → result ≡ true → Lands p (pos sum -ℤ pos 131071) }
 {
     if sum < OFFSET_SBX {
         return false;
     }
     let target = sum - OFFSET_SBX;
-    if proto.words <= target {
+    if body.proto.words <= target {
         return false;
     }
-    !is_companion(roles, target as usize)
+    !is_companion(body.roles, target as usize)
 }

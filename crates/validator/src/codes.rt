@@ -1,35 +1,52 @@
-// The codes of diagnostics, by luad's names.
-pub const L51_CLOSURE_001: u32 = 1;
+// The codes of diagnostics.
+ghost use Rattle.std.specs.Prelude.{◌≡◌};
+ghost use Rattle.validator.specs.Terms.{code_number};
 
-pub const L51_SETLIST_001: u32 = 2;
+// Each with luad's name, its number is document 01's.
+#[derive(Clone, Copy, PartialEq, Eq, Debug)]
+pub enum Code {
+    // L51-CLOSURE-001
+    Closure001 = 1,
+    // L51-SETLIST-001
+    Setlist001 = 2,
+    // L51-STACK-001, the only warning
+    Stack001 = 3,
+    // L51-OP-001
+    Op001 = 4,
+    // L51-JMP-001
+    Jmp001 = 5,
+    // L51-JMP-002
+    Jmp002 = 6,
+    // L51-CONST-003
+    Const003 = 7,
+    // L51-UPVAL-001
+    Upval001 = 8,
+    // L51-BOOL-001
+    Bool001 = 9,
+    // L51-REG-001
+    Reg001 = 10,
+    // L51-REG-SPAN-001
+    RegSpan001 = 11,
+    // L51-REG-002
+    Reg002 = 12,
+    // L51-REG-003
+    Reg003 = 13,
+    // L51-CONST-004
+    Const004 = 14,
+    // L51-CONST-005
+    Const005 = 15,
+    // L51-PROTO-002
+    Proto002 = 16,
+    // L51-CLOSURE-002
+    Closure002 = 17,
+}
 
-// The only warning.
-pub const L51_STACK_001: u32 = 3;
-
-pub const L51_OP_001: u32 = 4;
-
-pub const L51_JMP_001: u32 = 5;
-
-pub const L51_JMP_002: u32 = 6;
-
-pub const L51_CONST_003: u32 = 7;
-
-pub const L51_UPVAL_001: u32 = 8;
-
-pub const L51_BOOL_001: u32 = 9;
-
-pub const L51_REG_001: u32 = 10;
-
-pub const L51_REG_SPAN_001: u32 = 11;
-
-pub const L51_REG_002: u32 = 12;
-
-pub const L51_REG_003: u32 = 13;
-
-pub const L51_CONST_004: u32 = 14;
-
-pub const L51_CONST_005: u32 = 15;
-
-pub const L51_PROTO_002: u32 = 16;
-
-pub const L51_CLOSURE_002: u32 = 17;
+impl Code {
+    // Document 01's number.
+    #[tactic(auto, unfolding(crate::specs::Terms::code_number))]
+    pub fn number(self) -> u32
+        ensures { result ≡ code_number self }
+    {
+        self as u32
+    }
+}

@@ -1,56 +1,48 @@
 // The truncated owner of a prototype, after the faults of luad's `discover_roles_lua51`. There is at most one: it owns all words after it.
-ghost use Rattle.std.specs.Prelude.{◌≡◌, ℕ, ◌+◌, ◌*◌, ◌/◌, ◌≤◌, List, length, slice_index};
+ghost use Rattle.std.specs.Prelude.{◌≡◌, ℕ, ◌+◌, ◌/◌, List, length, slice_index};
 ghost use mathlib.Core.List.{flat_map};
-ghost use Rattle.opcodes.specs.Bytes.{u32s};
 ghost use Rattle.opcodes.specs.Lists.{up_from};
 ghost use Rattle.opcodes.specs.Words.{decoded};
-ghost use Rattle.chunk.specs.Refusals.{max_rows, max_word_bytes};
 ghost use Rattle.chunk.specs.Roles.{claims};
-ghost use Rattle.chunk.specs.Table.{row_bytes};
-ghost use Rattle.roles.specs.Terms.{proto_in, role_in};
+ghost use Rattle.roles.specs.Terms.{role_in};
 ghost use Rattle.verdict.specs.Diagnostics.{truncation_at};
-ghost use Rattle.validator.specs.Terms.{Describes, fault_diagnostics, last_owner, prototype_of};
+ghost use Rattle.validator.specs.Rows.{proto_of_row, proto_with};
+ghost use Rattle.validator.specs.Terms.{fault_diagnostics, last_owner};
 
-use crate::prototype::{Prototype, field};
-use opcodes::RawInstruction51;
+use crate::prototype::RowBody;
 use opcodes::bytes::read_u32;
-use roles::role::{Lua51PhysicalRole, role_at};
-use roles::table::{Child, UPVALUES, find_child};
+use opcodes::{Opcode51, OpcodeField, RawInstruction51};
+use roles::role::role_at;
+use roles::table::{Child, Column, Row, find_child};
 
-// The opcodes that own words, by their numbers.
-const SETLIST: u8 = 34;
-
-const CLOSURE: u8 = 36;
-
-// A truncated CLOSURE, with its pc and its child's upvalues; a truncated SETLIST, with its pc.
+// A truncated CLOSURE, with its child's upvalues; a truncated SETLIST.
 #[derive(Clone, Copy)]
 pub enum Lua51RoleFault {
-    None,
-    TruncatedClosure(u32, u32),
-    TruncatedSetlist(u32),
+    TruncatedClosure { owner_pc: u32, declared: u32 },
+    TruncatedSetlist { owner_pc: u32 },
 }
 
-// The fault of the prototype in a row.
-pub fn find_fault(protos: &[u8], proto: Prototype, code: &[u8], roles: &[u8]) -> Lua51RoleFault
-    requires row_there { (row_bytes * proto.row + row_bytes ≤ length protos.now) × (length protos.now / row_bytes ≤ max_rows) × (length code.now ≤ max_word_bytes) }
-    requires prototype { proto ≡ prototype_of protos.now proto.row }
-    requires describes { Describes (proto_in protos.now proto.row (u32s code.now)) proto code.now roles.now }
-    ensures { fault_diagnostics result ≡ flat_map (truncation_at (proto_in protos.now proto.row (u32s code.now))) (up_from 0 (length code.now / 4)) }
+// The fault of a row's prototype, if it has one.
+pub fn find_fault(row: &RowBody) -> Option<Lua51RoleFault>
+    ensures { fault_diagnostics result ≡ flat_map (truncation_at (proto_of_row row.now)) (up_from 0 (length row.now.body.code.now / 4)) }
 {
+    let code = row.body.code;
     let n = code.len() / 4;
     if n == 0 {
-        return Lua51RoleFault::None;
+        return None;
     }
-    let owner = last_owner(roles, (n - 1) as u32);
-    let w = RawInstruction51::decode(read_u32(code, 4 * (owner as usize)));
-    let owned = owned_words(protos, proto, w);
-    if (owner as u64) + (owned as u64) < n as u64 {
-        return Lua51RoleFault::None;
+    let owner_pc = last_owner(row.body.roles, (n - 1) as u32);
+    let w = RawInstruction51::decode(read_u32(code, 4 * (owner_pc as usize)));
+    let owned = owned_words(row, w);
+    if (owner_pc as u64) + (owned as u64) < n as u64 {
+        return None;
     }
-    if w.opcode_num == CLOSURE {
-        Lua51RoleFault::TruncatedClosure(owner, owned)
-    } else {
-        Lua51RoleFault::TruncatedSetlist(owner)
+    match w.opcode {
+        OpcodeField::Known(Opcode51::Closure) => Some(Lua51RoleFault::TruncatedClosure {
+            owner_pc,
+            declared: owned,
+        }),
+        _ => Some(Lua51RoleFault::TruncatedSetlist { owner_pc }),
     }
 }
 
@@ -59,38 +51,31 @@ pub fn find_fault(protos: &[u8], proto: Prototype, code: &[u8], roles: &[u8]) ->
 fn last_owner(roles: &[u8], pc: u32) -> u32
     ensures { result ≡ last_owner pc (role_in roles.now pc) }
 {
-    match role_at(roles, pc as usize) {
-        Lua51PhysicalRole::Instruction => pc,
-        Lua51PhysicalRole::ClosureBinding(owner, _) => owner,
-        Lua51PhysicalRole::SetlistExtra(owner) => owner,
+    role_at(roles, pc as usize).companion_pc().unwrap_or(pc)
+}
+
+// How many words an executable word of the row's prototype owns.
+fn owned_words(row: &RowBody, w: RawInstruction51) -> u32
+    requires { w ≡ decoded w.raw }
+    ensures { (pc : ℕ) (words : List ℕ) → result ≡ length (claims (proto_with row.now words) pc w.raw) }
+{
+    match w.opcode {
+        OpcodeField::Known(Opcode51::Closure) => child_upvalues(row, w.bx),
+        OpcodeField::Known(Opcode51::SetList) if w.c == 0 => 1,
+        _ => 0,
     }
 }
 
-// How many words an executable word of the prototype owns.
-fn owned_words(protos: &[u8], proto: Prototype, w: RawInstruction51) -> u32
-    requires row_there { (row_bytes * proto.row + row_bytes ≤ length protos.now) × (length protos.now / row_bytes ≤ max_rows) }
-    requires prototype_and_word { (proto ≡ prototype_of protos.now proto.row) × (w ≡ decoded w.raw) }
-    ensures { (pc : ℕ) (words : List ℕ) → result ≡ length (claims (proto_in protos.now proto.row words) pc w.raw) }
+// How many upvalues child k of the row's prototype has. A missing child has none. (Inlined: else the row lies in memory in each frame of the walk, 96
+// bytes a level.)
+#[inline(always)]
+fn child_upvalues(row: &RowBody, k: u32) -> u32
+    ensures { (words : List ℕ) → result ≡ slice_index (proto_with row.now words).children k }
 {
-    if w.opcode_num == CLOSURE {
-        return child_upvalues(protos, proto, w.bx);
-    }
-    if w.opcode_num == SETLIST {
-        if w.c == 0 {
-            return 1;
-        }
-    }
-    0
-}
-
-// How many upvalues child k of the prototype has. A missing child has none.
-fn child_upvalues(protos: &[u8], proto: Prototype, k: u32) -> u32
-    requires row_there { (row_bytes * proto.row + row_bytes ≤ length protos.now) × (length protos.now / row_bytes ≤ max_rows) }
-    requires prototype { proto ≡ prototype_of protos.now proto.row }
-    ensures { (words : List ℕ) → result ≡ slice_index (proto_in protos.now proto.row words).children k }
-{
+    let protos = row.protos;
+    let proto = row.body.proto;
     match find_child(protos, (proto.row as usize) + 1, proto.depth, k, 0) {
-        Child::Missing => 0,
-        Child::Row(_, row) => field(protos, row, UPVALUES),
+        None => 0,
+        Some(Child { row: number, .. }) => Row { protos, number }.field(Column::Upvalues),
     }
 }

@@ -5,6 +5,7 @@ pub mod calls;
 mod clean;
 pub mod codes;
 mod fault;
+mod image;
 mod operands;
 mod proto;
 mod prototype;

@@ -1,19 +1,17 @@
 // What the walk carries, and how a diagnostic is added to it.
-ghost use Rattle.std.specs.Prelude.{◌≡◌, ◌<◌, ◌&&◌, [], ◌∷◌, pos, nat_le};
-ghost use Rattle.opcodes.specs.Lists.{only};
+ghost use Rattle.std.specs.Prelude.{◌≡◌, ◌<◌, [], ◌∷◌, pos};
 ghost use Rattle.chunk.specs.Refusals.{max_rows};
 ghost use Rattle.verdict.specs.Diagnostics.{diagnostic, not_below, tested_step};
 ghost use Rattle.validator.specs.Steps.{advance, emit_all, emitted, emitted_if, moved_to, tested_of};
+ghost use Rattle.validator.specs.Terms.{code_number, as_list};
 
-use crate::codes::L51_STACK_001;
+use crate::calls::DIAGNOSTIC_BYTES;
+use crate::codes::Code;
 use opcodes::bytes::write_record;
-use std::num::wrapping_add_u32;
-
-// The length of a record in bytes.
-pub const DIAGNOSTIC_BYTES: usize = 16;
 
 // The next row and the index of its first word; how many diagnostics were found, and how many of them end the walk at a test; whether one is an
 // error; whether a test ended the walk. (The fields fill the struct: docs/DECISIONS.md says what its padding cost.)
+// The state is a value that methods take and hand back beside the lent buffer, document 01's form; `limit` is in it for the same reason.
 #[derive(Clone, Copy)]
 pub struct WalkState {
     pub row: usize,
@@ -22,6 +20,14 @@ pub struct WalkState {
     pub stop: u16,
     pub error: bool,
     pub limit: bool,
+}
+
+// Where a diagnostic stands: the row of a prototype and a pc in it, by the bits of its fields. (That of a stack is of no word: its pc is -1, document 01's
+// place for the prototype as a whole, which an Option would have to be made again in each record.)
+#[derive(Clone, Copy)]
+pub struct Location {
+    pub row: u32,
+    pub pc: u32,
 }
 
 impl WalkState {
@@ -47,74 +53,55 @@ impl WalkState {
         self
     }
 
-    // Adds a diagnostic, given by the bits of its fields: it is counted, and written where its record fits. (It is counted modulo 2^32, which the
-    // limit keeps far away.)
+    // Adds a diagnostic, its value given by its bits: it is counted, and written where its record fits. (It is counted modulo 2^32, which the
+    // limit keeps far away.) Here and below place, code and value are parameters: two of the four methods have the first two before there is a value.
     #[tactic(auto, unfolding(crate::specs::Steps::emitted))]
-    pub fn emit(mut self, out: &mut [u8], row: u32, pc: u32, code: u32, value: u32) -> WalkState
-        ensures { (result, out.new) ≡ emitted row pc code value (self, out.old) }
+    pub fn emit(mut self, out: &mut [u8], at: Location, code: Code, value: u32) -> WalkState
+        ensures { (result, out.new) ≡ emitted at.row at.pc (code_number code) value (self, out.old) }
     {
-        let record = [row, pc, code, value];
+        let record = [at.row, at.pc, code.number(), value];
         write_record(out, DIAGNOSTIC_BYTES * (self.count as usize), &record);
-        self.count = wrapping_add_u32(self.count, 1);
-        if code != L51_STACK_001 {
+        self.count = self.count.wrapping_add(1);
+        if code != Code::Stack001 {
             self.error = true;
         }
         self
     }
 
     // Adds the diagnostic of a word after a test.
-    pub fn report(self, out: &mut [u8], row: u32, pc: u32, code: u32, value: u32) -> WalkState
-        ensures { (result, out.new) ≡ advance row (self, out.old) (tested_step (diagnostic pc code (pos value) ∷ [])) }
+    pub fn report(self, out: &mut [u8], at: Location, code: Code, value: u32) -> WalkState
+        ensures { (result, out.new) ≡ advance at.row (self, out.old) (tested_step (diagnostic at.pc (code_number code) (pos value) ∷ [])) }
     {
         let walk = self.tested();
         if walk.limit {
             return walk;
         }
-        walk.emit(out, row, pc, code, value)
+        walk.emit(out, at, code, value)
     }
 
-    // Adds a diagnostic where its condition holds.
+    // Adds a diagnostic where it has a value.
     #[tactic(auto, unfolding(crate::specs::Steps::emitted_if))]
-    pub fn emit_if(
-        self,
-        out: &mut [u8],
-        row: u32,
-        pc: u32,
-        code: u32,
-        hit: bool,
-        value: u32,
-    ) -> WalkState
-        ensures { (result, out.new) ≡ emitted_if hit row pc code value (self, out.old) }
+    pub fn emit_if(self, out: &mut [u8], at: Location, code: Code, value: Option<u32>) -> WalkState
+        ensures { (result, out.new) ≡ emitted_if at.row at.pc (code_number code) value (self, out.old) }
     {
-        if !hit {
-            return self;
+        match value {
+            None => self,
+            Some(value) => self.emit(out, at, code, value),
         }
-        self.emit(out, row, pc, code, value)
     }
 
     // Adds the diagnostic of an operand, where the word names it and it is not below its limit.
     pub fn check(
         self,
         out: &mut [u8],
-        row: u32,
-        pc: u32,
-        code: u32,
-        named: bool,
-        value: u32,
+        at: Location,
+        code: Code,
+        operand: Option<u32>,
         limit: u32,
     ) -> WalkState
-        ensures { (result, out.new) ≡ emit_all row (not_below pc code limit (only named value)) (self, out.old) }
+        ensures { (result, out.new) ≡ emit_all at.row (not_below at.pc (code_number code) limit (as_list operand)) (self, out.old) }
     {
-        self.emit_if(out, row, pc, code, is_over(named, value, limit), value)
+        let over = operand.filter(|value| limit <= *value);
+        self.emit_if(out, at, code, over)
     }
-}
-
-// Whether an operand is named and not below its limit.
-fn is_over(named: bool, value: u32, limit: u32) -> bool
-    ensures { result ≡ named && nat_le limit value }
-{
-    if named {
-        return limit <= value;
-    }
-    false
 }

@@ -13,33 +13,29 @@ use opcodes::{OpcodeField, RawInstruction51};
 pub extern "C" fn words_digest(words: &[u8]) -> u64
     ensures { result ≡ digest (u32s words.now) }
 {
-    let n = words.len() / 4;
-    let mut sum: u64 = 0;
-    let mut i = 0;
-    while i < n {
-        let w = RawInstruction51::decode(read_u32(words, 4 * i));
-        sum = std::num::wrapping_add_u64(sum, weigh(w));
-        i += 1;
+    let mut sum = 0u64;
+    for word in words.chunks_exact(4) {
+        let w = RawInstruction51::decode(read_u32(word, 0));
+        sum = sum.wrapping_add(weigh(w));
     }
     sum
 }
 
+// The fields of a word, each with its weight.
 #[tactic(auto, unfolding(crate::specs::Digest::weight))]
 fn weigh(w: RawInstruction51) -> u64
     ensures { result ≡ weight w }
 {
-    let bits = i32_bits(w.sbx) as u64;
-    let o = w.opcode;
-    let opcode = weigh_opcode(o);
-    (w.opcode_num as u64)
-        + (w.a as u64) * 3
-        + (w.b as u64) * 5
-        + (w.c as u64) * 7
-        + (w.bx as u64) * 11
-        + bits * 13
-        + opcode
+    u64::from(w.opcode_num)
+        + u64::from(w.a) * 3
+        + u64::from(w.b) * 5
+        + u64::from(w.c) * 7
+        + u64::from(w.bx) * 11
+        + u64::from(i32_bits(w.sbx)) * 13
+        + weigh_opcode(w.opcode)
 }
 
+// The weight of an opcode. Two matches and not one, which would compile to a branch that words of any bits mispredict.
 #[tactic(auto, unfolding(crate::specs::Digest::opcode_weight))]
 fn weigh_opcode(o: OpcodeField) -> u64
     ensures value { result ≡ opcode_weight o }
@@ -48,17 +44,20 @@ fn weigh_opcode(o: OpcodeField) -> u64
     weigh_kind(o) + unknown_number(o)
 }
 
+// By whether it is known and has a register A,
 #[tactic(auto, unfolding(crate::specs::Digest::kind_weight))]
 fn weigh_kind(o: OpcodeField) -> u64
     ensures value { result ≡ kind_weight o }
     ensures upper_bound { result < 24 }
 {
     match o {
-        OpcodeField::Known(op) => { if op.a_is_register() { 17 } else { 19 } }
+        OpcodeField::Known(op) if op.a_is_register() => 17,
+        OpcodeField::Known(_) => 19,
         OpcodeField::Unknown(_) => 23,
     }
 }
 
+// and the number of an unknown one.
 #[tactic(auto, unfolding(crate::specs::Digest::unknown_number))]
 fn unknown_number(o: OpcodeField) -> u64
     ensures value { result ≡ unknown_number o }
@@ -66,6 +65,6 @@ fn unknown_number(o: OpcodeField) -> u64
 {
     match o {
         OpcodeField::Known(_) => 0,
-        OpcodeField::Unknown(n) => n as u64,
+        OpcodeField::Unknown(n) => u64::from(n),
     }
 }

@@ -1,27 +1,19 @@
 -- What is printed is the output, for this input and every longer one.
-use Rattle.std.proofs.Common.{ap, arith, sym}
-use lib.Seq.{length-take-le}
+use Rattle.std.proofs.Common.{ap, arith, refl}
 use Rattle.listing.specs.Packcheck.{output_text}
-use Rattle.check_listing.specs.Terms.{ListingFits, listing_of}
+use Rattle.check_listing.specs.Terms.{listing_of}
 use Rattle.check_listing.proofs.OutputLaws.{written}
 use Rattle.check_listing.proofs.check.check_listing.Goals as goal
+use Rattle.check_listing.proofs.check.check_listing.Goals.{in-Ok, in-Err}
 
-pub slice_bounds-print_check-end : goal.slice_bounds-print_check-end
-unfolding ListingFits
-slice_bounds-print_check-end c = sym (length-take-le _ c.read_listing.new.protos (omega (arith, c.in-Read.ensures.within_limits.0)))
-
-pub slice_bounds-print_check-end-in-Read : goal.slice_bounds-print_check-end-in-Read
-unfolding ListingFits
-slice_bounds-print_check-end-in-Read c = sym (length-take-le _ c.read_listing.new.words (omega (arith, c.in-Read.ensures.within_limits.1)))
-
-pub returns-in-Refused : goal.returns-in-Refused
+pub returns : goal.returns
 unfolding listing_of
-returns-in-Refused c =
-    let w = written (omega arith) (ap output_text c.in-Refused.ensures.reading) c.print_unread.ensures in
-    record { output_written = w.0; output_length = w.1; within_output = w.2; front_decides = w.3 }
-
-pub returns-in-Read : goal.returns-in-Read
-unfolding listing_of
-returns-in-Read c =
-    let w = written (omega arith) (ap output_text c.in-Read.ensures.reading) c.print_check.ensures in
-    record { output_written = w.0; output_length = w.1; within_output = w.2; front_decides = w.3 }
+returns c =
+    elim c.match-read_listing.branch [
+      | in-Ok w ↦
+          let p = written refl (omega arith) (ap output_text w.in-Ok.ensures) w.print_check.ensures in
+          rw w.printer-is (record { output_written = p.0; output_length = p.1; within_output = p.2; front_decides = p.3 })
+      | in-Err w ↦
+          let p = written refl (omega arith) (ap output_text w.in-Err.ensures) w.print_unread.ensures in
+          rw w.printer-is (record { output_written = p.0; output_length = p.1; within_output = p.2; front_decides = p.3 })
+    ]

@@ -1,13 +1,18 @@
 -- No digits, a leading zero, or the value of the digits.
-use Rattle.std.proofs.Common.{sym, ◌∙◌}
+use Rattle.std.proofs.Common.{arith}
+use Rattle.std.proofs.lemmas.Grind.{common_steps}
+use Rattle.check_listing.specs.Terms.{option_of}
 use Rattle.check_listing.proofs.NumberLaws.{decimal_empty, decimal_zero, decimal_value}
 use Rattle.check_listing.proofs.numbers.decimal_value.Goals as goal
+use Rattle.check_listing.proofs.numbers.decimal_value.Goals.{then-is_empty-via-then-is_empty, then-is_empty-via-else-is_empty+then-digits-gt1}
 
-pub returns-then-digits-eq0 : goal.returns-then-digits-eq0
-returns-then-digits-eq0 c = decimal_empty _ c.if-digits-eq0.true
-
-pub returns-then-has_leading_zero : goal.returns-then-has_leading_zero
-returns-then-has_leading_zero c = decimal_zero _ (sym c.has_leading_zero.ensures ∙ c.if-has_leading_zero.true)
+pub returns-then-is_empty : goal.returns-then-is_empty
+unfolding option_of
+returns-then-is_empty c =
+    elim c.then-is_empty.branch [
+      | then-is_empty-via-then-is_empty w ↦ decimal_empty _ (grind (arith, common_steps))
+      | then-is_empty-via-else-is_empty+then-digits-gt1 w ↦ decimal_zero _ (grind (arith, common_steps)) (grind (arith, common_steps))
+    ]
 
 pub returns : goal.returns
-returns c = decimal_value _ _ c.if-digits-eq0.false (sym c.has_leading_zero.ensures ∙ c.if-has_leading_zero.false) c.digits_value.ensures
+returns c = decimal_value _ _ (grind (arith, common_steps)) (λ h e. grind (arith, common_steps)) c.digits_value.ensures

@@ -1,16 +1,17 @@
--- A line of another length, of other bytes, without its newline, or the value of its digits.
+-- A line of another length or without its newline, of other bytes, or the value of its digits.
 use Rattle.std.proofs.Common.{sym}
+use Rattle.check_listing.specs.Terms.{option_of}
 use Rattle.check_listing.proofs.NumberLaws.{word_length, word_digits, word_newline, word_value}
 use Rattle.check_listing.proofs.numbers.parse_word.Goals as goal
+use Rattle.check_listing.proofs.numbers.parse_word.Goals.{then-line-via-then-line, then-line-via-else-line+then-line-ne10}
 
-pub returns-then-line-ne9 : goal.returns-then-line-ne9
-returns-then-line-ne9 c = word_length _ c.if-line-ne9.true
+pub returns-then-line : goal.returns-then-line
+unfolding option_of
+returns-then-line c = elim c.then-line.branch [ then-line-via-then-line w ↦ word_length _ w.if-line.true | then-line-via-else-line+then-line-ne10 w ↦ word_newline _ w.if-line-ne10.true ]
 
 pub returns-then-not-are_hex_digits : goal.returns-then-not-are_hex_digits
+unfolding option_of
 returns-then-not-are_hex_digits c = word_digits _ (sym c.if-not-are_hex_digits.ensures)
 
-pub returns-then-line-ne10 : goal.returns-then-line-ne10
-returns-then-line-ne10 c = word_newline _ c.if-line-ne10.true
-
 pub returns : goal.returns
-returns c = word_value _ _ c.if-line-ne9.false (sym c.if-not-are_hex_digits.ensures) c.if-line-ne10.false c.digits_value.ensures
+returns c = word_value _ _ c.if-line.false c.if-line-ne10.false (sym c.if-not-are_hex_digits.ensures) c.digits_value.ensures

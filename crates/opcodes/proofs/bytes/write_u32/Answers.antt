@@ -1,5 +1,8 @@
-use Rattle.opcodes.proofs.ByteLaws.{length_u32_bytes, no_room}
+-- A record of one number has its four bytes.
+use Rattle.std.proofs.Common.{ap, ◌∙◌}
+use Rattle.opcodes.specs.Bytes.{overwrite}
+use Rattle.opcodes.proofs.ByteLaws.{record_one}
 use Rattle.opcodes.proofs.bytes.write_u32.Goals as goal
 
-pub returns-then-not-has_room : goal.returns-then-not-has_room
-returns-then-not-has_room c = no_room _ _ 1 _ _ (length_u32_bytes _) c.has_room.ensures c.if-not-has_room.true
+pub returns : goal.returns
+returns c = c.write_record.ensures ∙ ap (overwrite c.args.out.now c.args.at) (record_one c.args.x)

@@ -9,5 +9,5 @@ loop-j-init c = (omega arith, records_none _ _)
 pub loop-j-preserved : goal.loop-j-preserved
 loop-j-preserved c = (omega arith, binding_next _ _ _ _ _ (omega arith) c.loop-j.invariant.1 c.write_role.ensures)
 
-pub returns-clause-out_after : goal.returns-clause-out_after
-returns-clause-out_after c = let e : c.loop-j.j ≡ c.args.count = omega arith in rw (← e) c.loop-j.invariant.1
+pub returns-clause-records_after : goal.returns-clause-records_after
+returns-clause-records_after c = let e : c.loop-j.j ≡ c.min-existing.result = omega arith in rw (← e) c.loop-j.invariant.1

@@ -6,8 +6,8 @@ use Rattle.roles.proofs.refusals.check_roles.Goals as goal
 
 pub returns-then-room-words : goal.returns-then-room-words
 unfolding refuse refused_of given_refusal
-returns-then-room-words c = too_short_lem _ _ _ c.in_default.ensures c.if-room-words.true
+returns-then-room-words c = too_short_lem _ _ _ c.in_ok-check_image.ensures c.if-room-words.true
 
 pub returns : goal.returns
 unfolding given_refusal
-returns c = fits_roles _ _ _ c.in_default.ensures c.if-room-words.false
+returns c = fits_roles _ _ _ c.in_ok-check_image.ensures c.if-room-words.false

@@ -1,10 +1,7 @@
 -- The rows that are passed have no child: the search from this row on finds what the search from `at` on does.
-use Rattle.std.proofs.Common.{◌≡◌, ◌-◌, ◌^◌, ◌<◌}
+use Rattle.std.proofs.Common.{◌≡◌, ◌^◌, ◌<◌}
 use Rattle.roles.proofs.SearchLaws.{search}
 use Rattle.roles.proofs.table.next_child.Given as goal
 
-abbrev pub invariant-loop-row : goal.invariant-loop-row
-invariant-loop-row l = (search l.protos l.row l.depth 0 l.records ≡ search l.protos l.at l.depth 0 l.first) × (l.records < 2 ^ 32)
-
-abbrev pub decreases-loop-row : goal.decreases-loop-row
-decreases-loop-row l = l.rows - l.row
+abbrev pub invariant-loop-number : goal.invariant-loop-number
+invariant-loop-number l = (search l.protos l.number l.depth 0 l.records ≡ search l.protos l.at l.depth 0 l.first) × (l.records < 2 ^ 32)

@@ -1,8 +1,8 @@
--- The loop goes on while words are found clean.
+-- The limits are those of the contracts.
 use Rattle.std.proofs.Common.{refl}
-use Rattle.validator.specs.Clean.{limits_of, shapes}
+use Rattle.validator.specs.Clean.{limits_of}
 use Rattle.validator.proofs.clean.next_suspect.Goals as goal
 
-pub is_clean-requires-clause-tables : goal.is_clean-requires-clause-tables
-unfolding limits_of shapes
-is_clean-requires-clause-tables c = (refl, refl)
+pub invariant_of-test : goal.invariant_of-test
+unfolding limits_of
+invariant_of-test c = record { limits_of_body = refl }

@@ -5,13 +5,13 @@ use Rattle.roles.specs.Terms.{proto_in}
 use Rattle.validator.proofs.FaultLaws.{child_found, child_missed}
 use Rattle.validator.proofs.fault.child_upvalues.Goals as goal
 
-pub field-requires : goal.field-requires
-field-requires c = let f = child_found _ _ c.requires.prototype _ _ c.find_child.ensures _ _ c.in-Row.is in (omega (arith, f.there), omega arith)
+pub invariant_of-field : goal.invariant_of-field
+invariant_of-field c = omega (arith, (child_found _ _ c.args.row.now.prototype _ _ c.find_child.ensures _ c.in-Some.is).there)
 
-pub returns-in-Missing : goal.returns-in-Missing
+pub returns-in-None : goal.returns-in-None
 unfolding proto_in proto_of
-returns-in-Missing c words = child_missed _ _ c.requires.prototype _ _ c.find_child.ensures c.in-Missing.is
+returns-in-None c words = child_missed _ _ c.args.row.now.prototype _ _ c.find_child.ensures c.in-None.is
 
-pub returns-in-Row : goal.returns-in-Row
+pub returns-in-Some : goal.returns-in-Some
 unfolding proto_in proto_of
-returns-in-Row c words = let f = child_found _ _ c.requires.prototype _ _ c.find_child.ensures _ _ c.in-Row.is in c.field.ensures ∙ sym f.upvalues
+returns-in-Some c words = let f = child_found _ _ c.args.row.now.prototype _ _ c.find_child.ensures _ c.in-Some.is in c.field.ensures ∙ sym f.upvalues

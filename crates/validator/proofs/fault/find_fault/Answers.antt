@@ -1,26 +1,37 @@
 -- Only the owner of the last word can be truncated.
+use Rattle.std.proofs.Common.{arith, rules}
 use mathlib.Core.List.{flat_map}
+use Rattle.opcodes.specs.Words.{number_of, CLOSURE}
+use Rattle.opcodes.specs.declared.Opcode51.TheVariants.{Closure}
 use Rattle.validator.specs.Terms.{fault_diagnostics}
 use Rattle.validator.proofs.FaultLaws.{split_again, no_fault, closure_fault, setlist_fault}
+use Rattle.validator.proofs.KnownLaws.{numbered, unlike, unlike_unknown}
 use Rattle.validator.proofs.fault.find_fault.Goals as goal
 
 pub returns-then-n-eq0 : goal.returns-then-n-eq0
 unfolding fault_diagnostics flat_map
 returns-then-n-eq0 c = rw c.if-n-eq0.true
 
-pub owned_words-owned-requires-clause-prototype_and_word : goal.owned_words-owned-requires-clause-prototype_and_word
-owned_words-owned-requires-clause-prototype_and_word c = (c.requires.prototype, split_again _ _ c.decode-w.ensures)
+pub owned_words-owned-requires : goal.owned_words-owned-requires
+owned_words-owned-requires c = split_again _ _ c.decode-w.ensures
 
-pub returns-then-owner-owned : goal.returns-then-owner-owned
-returns-then-owner-owned c =
-    no_fault _ _ c.requires.prototype _ _ c.requires.describes c.if-n-eq0.false _ _ _ _ c.last_owner-owner.ensures c.read_u32.ensures c.decode-w.ensures c.owned_words-owned.ensures c.if-owner-owned.true
+pub returns-then-owner_pc-owned : goal.returns-then-owner_pc-owned
+returns-then-owner_pc-owned c =
+    no_fault _ _ c.args.row.now.prototype _ _ c.args.row.now.describes c.if-n-eq0.false _ _ _ _ c.last_owner-owner_pc.ensures c.read_u32.ensures c.decode-w.ensures c.owned_words-owned.ensures c.if-owner_pc-owned.true
 
-pub returns-then-w-eq-CLOSURE : goal.returns-then-w-eq-CLOSURE
-returns-then-w-eq-CLOSURE c =
-    closure_fault _ _ c.requires.prototype _ _ c.requires.describes c.if-n-eq0.false _ _ _ _ c.last_owner-owner.ensures c.read_u32.ensures c.decode-w.ensures c.owned_words-owned.ensures c.if-owner-owned.false
-    c.if-w-eq-CLOSURE.true
+pub returns-in-Known-Closure : goal.returns-in-Known-Closure
+unfolding number_of
+returns-in-Known-Closure c =
+    closure_fault _ _ c.args.row.now.prototype _ _ c.args.row.now.describes c.if-n-eq0.false _ _ _ _ c.last_owner-owner_pc.ensures c.read_u32.ensures c.decode-w.ensures c.owned_words-owned.ensures c.if-owner_pc-owned.false
+    (numbered _ _ c.decode-w.ensures Closure (search rules))
 
-pub returns-else-w-eq-CLOSURE : goal.returns-else-w-eq-CLOSURE
-returns-else-w-eq-CLOSURE c =
-    setlist_fault _ _ c.requires.prototype _ _ c.requires.describes c.if-n-eq0.false _ _ _ _ c.last_owner-owner.ensures c.read_u32.ensures c.decode-w.ensures c.owned_words-owned.ensures c.if-owner-owned.false
-    c.if-w-eq-CLOSURE.false
+pub returns-in_default : goal.returns-in_default
+unfolding number_of
+returns-in_default c =
+    setlist_fault _ _ c.args.row.now.prototype _ _ c.args.row.now.describes c.if-n-eq0.false _ _ _ _ c.last_owner-owner_pc.ensures c.read_u32.ensures c.decode-w.ensures c.owned_words-owned.ensures c.if-owner_pc-owned.false
+    (unlike _ _ c.decode-w.ensures _ c.in_default.is CLOSURE (search rules))
+
+pub returns-in_default-2 : goal.returns-in_default-2
+returns-in_default-2 c =
+    setlist_fault _ _ c.args.row.now.prototype _ _ c.args.row.now.describes c.if-n-eq0.false _ _ _ _ c.last_owner-owner_pc.ensures c.read_u32.ensures c.decode-w.ensures c.owned_words-owned.ensures c.if-owner_pc-owned.false
+    (unlike_unknown _ _ c.decode-w.ensures _ c.in_default.is CLOSURE (omega arith))

@@ -1,7 +1,7 @@
 -- A row's own steps and then the rows below it; and, before each child, a test.
 use Rattle.std.proofs.Common.{sym, ◌∙◌, arith}
-use Rattle.validator.proofs.CycleLaws.{same_row, next_row, next_ready, below_walked, tested_row, tested_ready, stopped, child_stopped, rows_fall, child_passed}
-use Rattle.validator.proofs.ReadyLaws.{few_rows, room}
+use Rattle.validator.proofs.CycleLaws.{same_row, next_row, next_begins, below_walked, tested_row, tested_begins, stopped, child_stopped, rows_fall, child_passed}
+use Rattle.validator.proofs.ReadyLaws.{few_rows, ready, room}
 use Rattle.validator.proofs.RowLaws.{more, no_more, part_ended}
 use Rattle.validator.proofs.proto.+walk.Goals as goal
 
@@ -16,7 +16,7 @@ validate_children-validate_proto-walk-requires t c =
     let m = more _ _ _ (sym c.goes_on.ensures ∙ c.loop-walk-test.true) in
     let e = c.tested-walk.ensures in
     let row = tested_row _ _ _ _ _ pass m _ e in
-    (omega (arith, row, pass.later, m.there), (tested_ready _ _ _ _ _ pass m _ e _ _ c.requires.0, omega (arith, row, m.there), c.requires.2))
+    (omega (arith, row, pass.later, m.there), (omega (arith, row, m.there), tested_begins _ _ _ _ _ pass m _ e))
 
 pub validate_children-returns-then-walk-2 : goal.validate_children-returns-then-walk-2
 validate_children-returns-then-walk-2 t c =
@@ -37,27 +37,33 @@ validate_children-loop-walk-preserved t c =
 pub validate_children-returns : goal.validate_children-returns
 validate_children-returns t c = no_more _ _ _ _ (sym c.goes_on.ensures ∙ c.loop-walk-test.false) ∙ c.loop-walk.invariant.leads
 
-pub validate_proto-prototype_at-proto-requires : goal.validate_proto-prototype_at-proto-requires
-validate_proto-prototype_at-proto-requires t c = (omega (arith, c.requires.1), few_rows _ _ _ _ c.requires.0, c.requires.2)
-
 pub validate_proto-returns-then-own : goal.validate_proto-returns-then-own
 validate_proto-returns-then-own t c = part_ended _ _ _ _ _ c.validate_row-own.ensures c.if-own.true
 
 pub validate_proto-overflow_add-next : goal.validate_proto-overflow_add-next
-validate_proto-overflow_add-next t c = let r = room _ _ _ _ c.requires.0 c.requires.1 _ c.prototype_at-proto.ensures in omega (arith, r.within, r.short)
+validate_proto-overflow_add-next t c =
+    let r = ready _ _ _ c.args.walk c.args.table.now.filled c.requires.begins in
+    let m = room _ _ _ _ r c.requires.there _ c.prototype-proto.ensures in
+    omega (arith, m.0, m.2)
+
+pub validate_proto-validate_row-own-requires-clause-room : goal.validate_proto-validate_row-own-requires-clause-room
+validate_proto-validate_row-own-requires-clause-room t c = room _ _ _ _ (ready _ _ _ c.args.walk c.args.table.now.filled c.requires.begins) c.requires.there _ c.prototype-proto.ensures
 
 pub validate_proto-moved-requires : goal.validate_proto-moved-requires
 validate_proto-moved-requires t c =
-    let row = same_row _ _ _ _ c.requires.0 c.requires.1 _ _ c.validate_row-own.ensures in
-    omega (arith, row, c.requires.1, few_rows _ _ _ _ c.requires.0)
+    let r = ready _ _ _ c.args.walk c.args.table.now.filled c.requires.begins in
+    let row = same_row _ _ _ _ r c.requires.there _ _ c.validate_row-own.ensures in
+    omega (arith, row, c.requires.there, few_rows _ _ _ c.args.table.now.filled)
 
 pub validate_proto-validate_children-requires : goal.validate_proto-validate_children-requires
 validate_proto-validate_children-requires t c =
+    let r = ready _ _ _ c.args.walk c.args.table.now.filled c.requires.begins in
     let own = c.validate_row-own.ensures in
-    let q = c.prototype_at-proto.ensures in
-    let row = next_row _ _ _ _ c.requires.0 c.requires.1 _ _ own c.if-own.false _ q _ c.moved.ensures in
-    (omega (arith, row, c.requires.1), (next_ready _ _ _ _ c.requires.0 c.requires.1 _ _ own c.if-own.false _ q _ c.moved.ensures, omega (arith, row, c.requires.1), c.requires.2))
+    let q = c.prototype-proto.ensures in
+    let row = next_row _ _ _ _ r c.requires.there _ _ own c.if-own.false _ q _ c.moved.ensures in
+    (omega (arith, row, c.requires.there), (omega (arith, row, c.requires.there), next_begins _ _ _ _ r c.requires.there _ _ own c.if-own.false _ q _ c.moved.ensures))
 
 pub validate_proto-returns : goal.validate_proto-returns
 validate_proto-returns t c =
-    below_walked _ _ _ _ c.requires.0 c.requires.1 _ _ c.validate_row-own.ensures c.if-own.false _ c.prototype_at-proto.ensures _ c.moved.ensures _ c.validate_children.ensures
+    let r = ready _ _ _ c.args.walk c.args.table.now.filled c.requires.begins in
+    below_walked _ _ _ _ r c.requires.there _ _ c.validate_row-own.ensures c.if-own.false _ c.prototype-proto.ensures _ c.moved.ensures _ c.validate_children.ensures

@@ -5,13 +5,13 @@ use Rattle.validator.proofs.CycleLaws.{ChildPass}
 use Rattle.validator.proofs.proto.+walk.Given as goal
 
 abbrev pub decreases-validate_children : goal.decreases-validate_children
-decreases-validate_children l = (length l.protos.now / row_bytes - l.walk.row) * 2 + 1
+decreases-validate_children l = (length l.table.now.protos.now / row_bytes - l.walk.row) * 2 + 1
 
 abbrev pub decreases-validate_proto : goal.decreases-validate_proto
-decreases-validate_proto l = (length l.protos.now / row_bytes - l.walk.row) * 2
+decreases-validate_proto l = (length l.table.now.protos.now / row_bytes - l.walk.row) * 2
 
 abbrev pub invariant-validate_children-loop-walk : goal.invariant-validate_children-loop-walk
-invariant-validate_children-loop-walk l = ChildPass l.protos l.words l.depth (l.initial.walk, l.initial.out) (l.walk, l.out)
+invariant-validate_children-loop-walk l = ChildPass l.table.protos.now l.table.words.now l.depth (l.initial.walk, l.initial.out) (l.walk, l.out)
 
 abbrev pub decreases-validate_children-loop-walk : goal.decreases-validate_children-loop-walk
-decreases-validate_children-loop-walk l = length l.protos / row_bytes - l.walk.row
+decreases-validate_children-loop-walk l = length l.table.protos.now / row_bytes - l.walk.row

@@ -7,10 +7,10 @@ returns-then-walk c = own_test _ _ _ _ c.tested-walk.ensures c.if-walk.true
 
 pub returns-then-walk-2 : goal.returns-then-walk-2
 returns-then-walk-2 c =
-    own_fault _ _ _ _ c.tested-walk.ensures _ (faulted _ _ _ _ _ c.requires.describes _ _ _ c.find_fault.ensures c.validate_fault-walk.ensures) c.if-walk-2.true
+    own_fault _ _ _ _ c.tested-walk.ensures _ (faulted _ _ _ _ _ c.args.row.now.describes _ _ _ c.find_fault.ensures c.validate_fault-walk.ensures) c.if-walk-2.true
 
 pub returns : goal.returns
 returns c =
-    let d = c.requires.describes in
+    let d = c.args.row.now.describes in
     own_words _ _ _ _ c.tested-walk.ensures _ (faulted _ _ _ _ _ d _ _ _ c.find_fault.ensures c.validate_fault-walk.ensures) _ _ c.if-walk-2.false
     (c.validate_stack-walk.ensures _ d.limits) (worded _ _ _ _ _ d _ _ (c.validate_words.ensures _ d))

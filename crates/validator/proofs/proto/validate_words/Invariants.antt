@@ -4,7 +4,7 @@ use Rattle.validator.proofs.OwnLaws.{WordPass}
 use Rattle.validator.proofs.proto.validate_words.Given as goal
 
 abbrev pub invariant-loop-pc : goal.invariant-loop-pc
-invariant-loop-pc l = WordPass l.proto l.code l.roles l.n (l.initial.walk, l.initial.out) (l.walk, l.out) l.pc
+invariant-loop-pc l = WordPass l.body.proto l.body.code.now l.body.roles.now l.n (l.initial.walk, l.initial.out) (l.walk, l.out) l.pc
 
 abbrev pub decreases-loop-pc : goal.decreases-loop-pc
 decreases-loop-pc l = l.n - l.pc

@@ -3,5 +3,5 @@ use Rattle.std.proofs.Common.{refl}
 use Rattle.validator.proofs.ChildCountLaws.{counts_begin}
 use Rattle.validator.proofs.prototype.count_children.Goals as goal
 
-pub loop-row-init : goal.loop-row-init
-loop-row-init c = counts_begin _ _ _ _ refl c.requires.1 refl
+pub loop-number-init : goal.loop-number-init
+loop-number-init c = counts_begin _ _ _ _ refl c.requires.1 refl

@@ -9,6 +9,6 @@ pub returns : goal.returns
 unfolding captured_register captured_upvalue
 returns c =
     let split = c.decode-w.ensures in
-    emits_cons _ _ _ _ _ _ (bad_binding _ _ _ _ split _ _ _ _ c.is_binding.ensures c.opcode_value.ensures c.emit_if-walk.ensures)
-    (emits_cons _ _ _ _ _ _ (checked_as _ _ _ _ _ _ _ _ c.check-walk.ensures (captured _ _ split 0))
-    (emits_end _ _ _ _ (checked_as _ _ _ _ _ _ _ _ c.check.ensures (captured _ _ split 4))))
+    emits_cons _ _ _ _ _ _ (bad_binding _ _ _ _ split _ _ _ _ c.is_binding-other.ensures c.opcode_value.ensures _ c.then_some-opcode.ensures c.emit_if-walk.ensures)
+    (emits_cons _ _ _ _ _ _ (checked_as _ _ _ _ _ _ _ _ c.check-walk.ensures (captured _ _ split 0 _ c.then_some-register.ensures))
+    (emits_end _ _ _ _ (checked_as _ _ _ _ _ _ _ _ c.check.ensures (captured _ _ split 4 _ c.then_some-upvalue.ensures))))

@@ -1,10 +1,10 @@
--- The companions before `at` were looked at.
+-- The companions before `next` were looked at.
 use Rattle.std.proofs.Common.{◌-◌, ◌/◌, length}
 use Rattle.validator.proofs.BindingLaws.{BindingPass}
 use Rattle.validator.proofs.word.validate_bindings.Given as goal
 
-abbrev pub invariant-loop-proto : goal.invariant-loop-proto
-invariant-loop-proto l = BindingPass l.proto l.code l.roles l.pc (l.initial.walk, l.initial.out) (l.walk, l.out) l.at
+abbrev pub invariant-loop-word : goal.invariant-loop-word
+invariant-loop-word l = BindingPass l.body.proto l.body.code.now l.body.roles.now l.pc (l.initial.walk, l.initial.out) (l.walk, l.out) l.next
 
-abbrev pub decreases-loop-proto : goal.decreases-loop-proto
-decreases-loop-proto l = length l.roles / 8 - l.at
+abbrev pub decreases-loop-word : goal.decreases-loop-word
+decreases-loop-word l = length l.body.roles.now / 8 - l.next

@@ -1,18 +1,18 @@
--- The diagnostics of its parts, one after another.
-use Rattle.std.proofs.Common.{[], ◌∷◌}
-use Rattle.opcodes.specs.Words.{CLOSURE}
-use Rattle.verdict.specs.Operands.{child_bx}
-use Rattle.validator.proofs.EmitLaws.{emits_end, emits_join}
-use Rattle.validator.proofs.OperandLaws.{split_bx}
-use Rattle.validator.proofs.WordLaws.{checked_as, named_by, emits_operands}
+-- The diagnostics of its checks, one after another.
+use Rattle.validator.proofs.EmitLaws.{emits_cons, emits_end}
+use Rattle.validator.proofs.WordLaws.{checked_as, emits_operands, spans_checked}
 use Rattle.validator.proofs.word.validate_operands.Goals as goal
 
 pub returns : goal.returns
-unfolding child_bx
 returns c p l =
-    emits_operands p _ _ _ l _ _
-    (emits_join _ _ _ _ _ _ c.validate_indices-walk.ensures
-    (emits_join _ _ _ _ _ _ c.validate_registers-walk.ensures
-    (emits_join _ _ _ _ _ _ c.validate_fields-walk.ensures
-    (emits_end _ _ _ _
-    (checked_as _ _ _ _ _ _ _ _ c.check.ensures (named_by c.args.op c.args.w c.requires (CLOSURE ∷ []) _ _ _ c.is_closure.ensures (split_bx c.args.w c.requires.split)))))))
+    emits_operands _ p _ _ _ l _ _
+    (emits_cons _ _ _ _ _ _ (checked_as _ _ _ _ _ _ _ _ c.check-walk.ensures c.constant_bx.ensures)
+    (emits_cons _ _ _ _ _ _ (checked_as _ _ _ _ _ _ _ _ c.check-walk-2.ensures c.upvalue_b.ensures)
+    (emits_cons _ _ _ _ _ _ (checked_as _ _ _ _ _ _ _ _ c.check-walk-3.ensures c.flag_a.ensures)
+    (emits_cons _ _ _ _ _ _ (checked_as _ _ _ _ _ _ _ _ c.check-walk-4.ensures c.register_a.ensures)
+    (emits_cons _ _ _ _ _ _ (spans_checked _ _ _ _ _ _ _ _ _ c.span_ends-first.ensures c.check-walk-5.ensures c.check-walk-6.ensures)
+    (emits_cons _ _ _ _ _ _ (checked_as _ _ _ _ _ _ _ _ c.check-walk-7.ensures c.register_in.ensures)
+    (emits_cons _ _ _ _ _ _ (checked_as _ _ _ _ _ _ _ _ c.check-walk-8.ensures c.register_in-2.ensures)
+    (emits_cons _ _ _ _ _ _ (checked_as _ _ _ _ _ _ _ _ c.check-walk-9.ensures c.constant_in.ensures)
+    (emits_cons _ _ _ _ _ _ (checked_as _ _ _ _ _ _ _ _ c.check-walk-10.ensures c.constant_in-2.ensures)
+    (emits_end _ _ _ _ (checked_as _ _ _ _ _ _ _ _ c.check.ensures c.child_bx.ensures)))))))))))

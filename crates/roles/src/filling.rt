@@ -1,0 +1,16 @@
+// What is filled, and from what.
+ghost use Rattle.std.specs.Prelude.{◌≡◌, length};
+ghost use Rattle.std.proofs.Math.Option.{none};
+ghost use Rattle.chunk.specs.Refusals.{roles_refusal};
+ghost use Rattle.roles.specs.BindingSteps.{RoomForAllOrNone};
+
+// An accepted image, and the buffers that its roles and its bindings are written to: the latter has room for all records or for none.
+#[derive(Drop)]
+pub(crate) struct Filling<'a> {
+    pub roles: &'a mut [u8],
+    pub bindings: &'a mut [u8],
+    pub protos: &'a [u8],
+    pub words: &'a [u8],
+    ghost accepted: { roles_refusal protos.now words.now (length roles.now) ≡ none },
+    ghost room: { RoomForAllOrNone protos.now (length bindings.now) },
+}

@@ -1,0 +1,14 @@
+-- The prototype that a row of the table has: the terms of inner contracts. Assumes nothing: these are definitions.
+use Rattle.std.specs.Prelude.{ℕ, List}
+use Rattle.opcodes.specs.Bytes.{u32s}
+use Rattle.chunk.specs.Table.{Proto}
+use Rattle.roles.specs.Terms.{proto_in}
+use Rattle.validator.specs.declared.prototype.RowBody.{RowBody}
+
+-- the row's prototype, of these words
+abbrev pub proto_with : RowBody → List ℕ → Proto
+proto_with r words = proto_in r.protos.now r.body.proto.row words
+
+-- of its own words
+abbrev pub proto_of_row : RowBody → Proto
+proto_of_row r = proto_with r (u32s r.body.code.now)

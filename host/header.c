@@ -18,6 +18,7 @@ static void limits(void)
     expect("most bindings", 4177920, LUAD51_MAX_BINDINGS);
     expect("most diagnostics", 10255, LUAD51_MAX_DIAGNOSTICS);
     expect("diagnostic limit", 10000, LUAD51_DIAGNOSTIC_LIMIT);
+    expect("bit of an accepted check", 47, LUAD51_CHECKED_BIT);
     expect("bytes of a row", 20, LUAD51_ROW_BYTES);
     expect("bytes of a word", 4, LUAD51_WORD_BYTES);
     expect("bytes of a role", 8, LUAD51_ROLE_BYTES);
@@ -45,42 +46,53 @@ static void numbers(void)
         expect("code", i + 1, CODES[i]);
 }
 
-/* A result and what is to be read from it. */
+/* A result and what is to be read from it: the table of crates/luad51/specs/Examples.antt. */
 struct packed {
     uint64_t result;
     uint32_t refusal;
     uint32_t figure;
     uint32_t verdict;
+    int checked;
     int passed;
 };
 
 static void read_results(void)
 {
     static const struct packed PACKED[] = {
-        {0x0, 0, 0, 0, 1},
-        {0x280f, 0, 10255, 0, 1},
-        {0xffffffff, 0, 4294967295u, 0, 1},
-        {0x10000000000, 0, 0, 1, 0},
-        {0x10000000001, 0, 1, 1, 0},
-        {0x20000000000, 0, 0, 2, 0},
-        {0x2000000280f, 0, 10255, 2, 0},
-        {0x100000000, 1, 0, 0, 0},
-        {0x200000000, 2, 0, 0, 0},
-        {0x300000000, 3, 0, 0, 0},
-        {0x400003fff, 4, 16383, 0, 0},
-        {0x500003fff, 5, 16383, 0, 0},
-        {0x600000000, 6, 0, 0, 0},
-        {0x700000000, 7, 0, 0, 0},
-        {0x8003fc000, 8, 4177920, 0, 0},
-        {0x0000ff0000000000, 0, 0, 255, 0},
-        {0x000000ff00000000, 255, 0, 0, 0},
-        {0xffff000000000000, 0, 0, 0, 1},
+        /* of an accepted check */
+        {0x800000000000, 0, 0, 0, 1, 1},
+        {0x80000000280f, 0, 10255, 0, 1, 1},
+        {0x8000ffffffff, 0, 4294967295u, 0, 1, 1},
+        {0x810000000000, 0, 0, 1, 1, 0},
+        {0x810000000001, 0, 1, 1, 1, 0},
+        {0x820000000000, 0, 0, 2, 1, 0},
+        {0x82000000280f, 0, 10255, 2, 1, 0},
+        /* that nobody set, and of another accepted call */
+        {0x0, 0, 0, 0, 0, 0},
+        {0x1, 0, 1, 0, 0, 0},
+        {0x3fc000, 0, 4177920, 0, 0, 0},
+        /* of a refused call */
+        {0x100000000, 1, 0, 0, 0, 0},
+        {0x200000000, 2, 0, 0, 0, 0},
+        {0x300000000, 3, 0, 0, 0, 0},
+        {0x400003fff, 4, 16383, 0, 0, 0},
+        {0x500003fff, 5, 16383, 0, 0, 0},
+        {0x600000000, 6, 0, 0, 0, 0},
+        {0x700000000, 7, 0, 0, 0, 0},
+        {0x8003fc000, 8, 4177920, 0, 0, 0},
+        /* of no call: each accessor reads its own bits */
+        {0x00007f0000000000, 0, 0, 127, 0, 0},
+        {0x000000ff00000000, 255, 0, 0, 0, 0},
+        {0x000080ff00000000, 255, 0, 0, 1, 0},
+        {0xffff800000000000, 0, 0, 0, 1, 1},
+        {0xffff7fffffffffff, 255, 4294967295u, 127, 0, 0},
     };
     in_case("reading results");
     for (size_t i = 0; i < COUNT(PACKED); i++) {
         expect("refusal", PACKED[i].refusal, luad51_refusal(PACKED[i].result));
         expect("figure", PACKED[i].figure, luad51_figure(PACKED[i].result));
         expect("verdict", PACKED[i].verdict, luad51_verdict(PACKED[i].result));
+        expect("checked", (uint64_t)PACKED[i].checked, (uint64_t)luad51_checked(PACKED[i].result));
         expect("passed", (uint64_t)PACKED[i].passed, (uint64_t)luad51_passed(PACKED[i].result));
     }
 }

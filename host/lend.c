@@ -302,10 +302,12 @@ static void expect_result(const struct image *image, const struct attempt *attem
 {
     bool judged = attempt->call == CHECK_CALL && attempt->refusal == LUAD51_ACCEPTED;
     uint64_t verdict = judged ? image->verdict : 0;
-    expect("result", attempt->figure + 0x100000000u * (uint64_t)attempt->refusal + 0x10000000000u * verdict, result);
+    uint64_t checked = judged ? CHECKED : 0;
+    expect("result", attempt->figure + 0x100000000u * (uint64_t)attempt->refusal + 0x10000000000u * verdict + checked, result);
     expect("refusal", attempt->refusal, luad51_refusal(result));
     expect("figure", attempt->figure, luad51_figure(result));
     expect("verdict", verdict, luad51_verdict(result));
+    expect("passed", judged && verdict == LUAD51_VALID_FOR_PARSER, (uint64_t)luad51_passed(result));
 }
 
 static void attempt_at(const struct image *image, const struct attempt *attempt, const struct place *place)

@@ -17,6 +17,9 @@
 #define BINDINGS_ROOM (LUAD51_MAX_BINDINGS * LUAD51_BINDING_BYTES)
 #define DIAGNOSTICS_ROOM (LUAD51_MAX_DIAGNOSTICS * LUAD51_DIAGNOSTIC_BYTES)
 
+/* What an accepted check adds to its result. */
+#define CHECKED ((uint64_t)1 << 47)
+
 /* An image, and what document 01 says of it, written down by hand. */
 struct image {
     const char *name;

@@ -3,8 +3,9 @@
  *     cc -std=c99 -O2 -Iinclude -o startup host/startup.c crates/luad51/out/libluad51.a
  *     ./startup; echo "exit status $?"; ./startup 1155; echo "exit status $?"
  * Exit status: 0 the script was started, 1 it was not, 2 no such bit. These commands print host/startup.out.
- * The check finds what would make the script unsafe to run. A flipped bit can also leave a script that is safe and does
- * something else, so a checksum is still wanted: of the 1,216 bits, 735 are noticed here. */
+ * A pass says that the operands which the script's words name are in range, and that control stays on its instructions
+ * or leaves. It says nothing of the types of values, and nothing of content: a flipped bit can leave a script that does
+ * something else and passes too, so a checksum is still wanted. Of the 1,216 bits, 735 are noticed here. */
 #include <inttypes.h>
 #include <stdbool.h>
 #include <stdio.h>

@@ -30,7 +30,9 @@
  * The time is linear in words and records, and in rows times the depth of nesting, in whatever order CLOSUREs name
  * children.
  *
- * The result of a call is figure + 2^32 * refusal + 2^40 * verdict; bits 48 to 63 are 0.
+ * The result of a call is figure + 2^32 * refusal + 2^40 * verdict, and of an accepted luad51_check 2^47 more: it sets
+ * bit LUAD51_CHECKED_BIT, and nothing else does. Bits 48 to 63 are 0. So a result that nobody set (0), one of another
+ * call and a refused one are no pass (luad51_passed).
  *   accepted  refusal LUAD51_ACCEPTED; the figure is the number of role records, one for each word, or, of
  *             luad51_bindings, the number of binding records, one for each upvalue of each row, or, of luad51_check,
  *             the number of diagnostics; the verdict is that of luad51_check, and 0 of the other calls
@@ -41,6 +43,14 @@
  * call leaves its buffers untouched, except that with LUAD51_BUFFER_TOO_SHORT the role records are written, as by an
  * accepted call. So a call with a role buffer that fits and an empty buffer for the call's own records tells how many
  * of those there are: the figure, whether it is accepted (then 0) or refused with LUAD51_BUFFER_TOO_SHORT.
+ *
+ * A pass of luad51_check says of every prototype that an execution, whichever way tests and loops go, meets only words
+ * that are instructions, with every operand that they name in range, and leaves only at RETURN, TAILCALL or past the
+ * last word. It says nothing of
+ *   types    FORLOOP without its FORPREP takes any register for a number, and Lua's VM gives an address as one
+ *   Lua's VM what this does past the last word, or with a word after a test that is no JMP
+ *   content  about half of all single flipped bits leave an image that passes too: a checksum is still wanted
+ * docs/DIFFERENCES.md has these cases and the others in which luad, Lua's own check and Lua's VM differ.
  */
 #ifndef LUAD51_H
 #define LUAD51_H
@@ -63,6 +73,9 @@ extern "C" {
 /* Most records that a call can have; of role records it is LUAD51_MAX_WORDS. */
 #define LUAD51_MAX_BINDINGS 4177920  /* LUAD51_MAX_ROWS rows of LUAD51_MAX_UPVALUES */
 #define LUAD51_MAX_DIAGNOSTICS 10255 /* LUAD51_DIAGNOSTIC_LIMIT - 1, and a word that has 256 */
+
+/* The bit of a result that an accepted luad51_check sets, and nothing else. */
+#define LUAD51_CHECKED_BIT 47
 
 /* Incoming and new diagnostics together with which luad51_check ends. */
 #define LUAD51_DIAGNOSTIC_LIMIT 10000
@@ -184,13 +197,20 @@ static inline uint32_t luad51_figure(uint64_t result)
 /* A result's verdict, as in enum luad51_verdict_number; it says something only where luad51_check accepted. */
 static inline uint32_t luad51_verdict(uint64_t result)
 {
-    return result >> 40 & 0xff;
+    return result >> 40 & 0x7f;
 }
 
-/* Whether a result of luad51_check is a pass: accepted, and LUAD51_VALID_FOR_PARSER. Nothing else is one. */
+/* Whether a result is that of an accepted luad51_check. */
+static inline int luad51_checked(uint64_t result)
+{
+    return result >> LUAD51_CHECKED_BIT & 1;
+}
+
+/* Whether a result is a pass: of an accepted luad51_check, and LUAD51_VALID_FOR_PARSER. Nothing else is one. */
 static inline int luad51_passed(uint64_t result)
 {
-    return luad51_refusal(result) == LUAD51_ACCEPTED && luad51_verdict(result) == LUAD51_VALID_FOR_PARSER;
+    return luad51_checked(result) && luad51_refusal(result) == LUAD51_ACCEPTED &&
+           luad51_verdict(result) == LUAD51_VALID_FOR_PARSER;
 }
 
 /* The i32 whose four bytes begin here, at any address. */

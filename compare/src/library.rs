@@ -50,10 +50,13 @@ impl Library for Archive {
     }
 }
 
-/// A call's result as the header lays it out: figure + 2^32 * refusal + 2^40 * verdict.
+/// The bit that an accepted check sets.
+pub const CHECKED: u64 = 1 << 47;
+
+/// A call's result as the header lays it out: figure + 2^32 * refusal + 2^40 * verdict, and of an accepted check 2^47 more.
 pub fn result(call: Call, outcome: Outcome, verdict: u64) -> u64 {
     match outcome {
-        Ok(records) if call == Call::Check => records as u64 | verdict << 40,
+        Ok(records) if call == Call::Check => records as u64 | verdict << 40 | CHECKED,
         Ok(records) => records as u64,
         Err(refused) => refused.figure as u64 | (refused.refusal as u64) << 32,
     }

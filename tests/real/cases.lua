@@ -6,6 +6,10 @@ local CHILD = { words = "0080001e", upvalues = 1, vararg = 0 }
 -- return f(true), but for a SETLIST after the TAILCALL: local t = {f(true)} return t
 local TAILCALL = "0000000a 00000045 00800082 0100005d 00004022 0100001e"
 
+-- A table, and the number whose bits are its address
+local TABLE = {}
+local ADDRESS = tonumber(tostring(TABLE):match("0x%x+")) * 2 ^ -1074
+
 return {
     -- Lua refuses it as bad code; `rule` is the line in ldebug.c. With the fields of `but` in place of its own Lua loads it. `gives`: the
     -- values where it is called without that check.
@@ -99,7 +103,7 @@ return {
         { name = "code-12-at-binding-word", words = "00000024 01000000 0080001e", children = { CHILD }, luad = "0 1 12 2" },
     },
 
-    -- Lua loads it, and it gives these values when it is called; `f`: the only global there is
+    -- Lua loads it, and it gives these values when it is called; `f`: the only global there is, and the only argument
     executed = {
         { name = "loadbool-c-2-skips", words = "00008002 0080001e 0100001e", gives = "false" },
         { name = "loadbool-c-256-skips", words = "00400002 0080001e 0100001e", gives = "false" },
@@ -118,6 +122,10 @@ return {
         { name = "tailcall-of-lua", words = TAILCALL, constants = { "f" }, stack = 3, f = function(v) return type(v) end, gives = "boolean" },
         { name = "loadnil-b-below-a", words = "00800002 00800042 00000043 0180001e", gives = "nil true" },
         { name = "return-b-0", words = "0000001e", gives = "nil nil" },
+        {
+            name = "forloop-without-forprep", words = "00000040 00000080 000000c1 80000016 0100011e 7fff405f 0080001e", constants = { 0 }, stack = 5,
+            params = 1, vararg = 0, f = TABLE, gives = tostring(ADDRESS),
+        },
         { name = "jmp-past-extra-word", words = "80004016 00800022 00000022 0080001e", gives = "" },
     },
 

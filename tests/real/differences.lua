@@ -81,7 +81,7 @@ local function all_shown(_, ...)
     return table.concat(list, " ")
 end
 
-local function call(loaded, f) return all_shown(pcall(setfenv(loaded, { f = f }))) end
+local function call(loaded, f) return all_shown(pcall(setfenv(loaded, { f = f }), f)) end
 
 local tried, wrong = 0, 0
 

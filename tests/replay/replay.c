@@ -246,6 +246,8 @@ static void compare_result(const struct replay *replay, uint64_t result)
     compare_number(replay, "refusal", replay->outcome.refusal, luad51_refusal(result));
     compare_number(replay, "figure", replay->outcome.figure, luad51_figure(result));
     compare_number(replay, "verdict", replay->outcome.verdict, luad51_verdict(result));
+    compare_number(replay, "checked", replay->call == CHECK && replay->outcome.refusal == LUAD51_ACCEPTED,
+                   (uint64_t)luad51_checked(result));
     compare_number(replay, "bits 48 to 63", 0, result >> 48);
 }
 

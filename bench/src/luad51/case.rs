@@ -127,15 +127,11 @@ impl Case {
         model::discover_after(black_box(&self.chunk.main_proto), &mut self.reached.clone());
     }
 
-    /// Says where a call did not accept the image with so many records and this verdict.
-    fn accepted(&self, result: u64, records: usize, verdict: u64) -> Result<(), String> {
-        let (found, refusal, figure) = (result >> 40, result >> 32 & 0xff, result as u32);
-        match result == verdict << 40 | records as u64 {
+    /// Says where a call did not accept the image with so many records and these bits above them.
+    fn accepted(&self, result: u64, records: usize, above: u64) -> Result<(), String> {
+        match result == above | records as u64 {
             true => Ok(()),
-            false => Err(format!(
-                "{}: refusal {refusal}, figure {figure} and verdict {found}, not 0, {records} and {verdict}",
-                self.name
-            )),
+            false => Err(format!("{}: result {result:#x}, not {above:#x} and {records} records", self.name)),
         }
     }
 
@@ -208,7 +204,7 @@ impl Case {
             self.roles.fill(UNWRITTEN);
             self.diagnostics.fill(UNWRITTEN);
             let result = self.check_with(room);
-            self.accepted(result, luads.len(), verdict as u64)?;
+            self.accepted(result, luads.len(), 1 << 47 | (verdict as u64) << 40)?;
             self.same_roles()?;
             let (ours, past) = self.diagnostics.split_at(DIAGNOSTIC_LEN * luads.len());
             self.same(&records(ours), &luads, |at| format!("diagnostic {at}"))?;

@@ -6,11 +6,11 @@ mod damaged;
 mod families;
 mod jumps;
 mod limit;
-mod near_valid;
+pub mod near_valid;
 mod one_word;
 mod random;
 mod refused;
-mod short;
+pub mod short;
 mod spans;
 
 use answers::image::Image;

@@ -1,7 +1,7 @@
 //! Valid images with up to three small changes: an operand or a figure by one, an opcode, a word removed or doubled.
 use super::{Scale, Visit};
 use answers::families::valid;
-use answers::image::{image, Source};
+use answers::image::{image, Image, Source};
 use answers::rng::Rng;
 
 /// The fields of a word, as its first bit and its largest value: A, C, B and Bx.
@@ -43,14 +43,19 @@ fn change(rng: &mut Rng, source: &mut Source) {
     }
 }
 
+/// One image of the kind.
+pub fn one(rng: &mut Rng) -> Image {
+    let rows = rng.pick(&[1, 1, 2, 3, 4]);
+    let mut sources = valid::sources(rng, rows, 16 / rows);
+    for _ in 0..rng.below(4) {
+        let row = rng.below(rows) as usize;
+        change(rng, &mut sources[row]);
+    }
+    image(&sources)
+}
+
 pub fn each(scale: Scale, rng: &mut Rng, visit: Visit) {
     for _ in 0..scale.of(40_000, 1_500_000) {
-        let rows = rng.pick(&[1, 1, 2, 3, 4]);
-        let mut sources = valid::sources(rng, rows, 16 / rows);
-        for _ in 0..rng.below(4) {
-            let row = rng.below(rows) as usize;
-            change(rng, &mut sources[row]);
-        }
-        visit(image(&sources));
+        visit(one(rng));
     }
 }

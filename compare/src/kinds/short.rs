@@ -53,10 +53,10 @@ pub fn alphabet() -> [u32; 40] {
 }
 
 /// Constants, upvalues and stack, and the upvalues of an only child.
-type Figures = ([u32; 3], Option<u32>);
+pub type Figures = ([u32; 3], Option<u32>);
 
 /// The figures of all prototypes.
-fn figures() -> Vec<Figures> {
+pub fn figures() -> Vec<Figures> {
     let mut all = Vec::new();
     for child in [None, Some(0), Some(1), Some(2)] {
         for stack in [0, 1, 2, 250, 251] {

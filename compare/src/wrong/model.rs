@@ -1,7 +1,7 @@
 //! A library that gives a stored answer, with or without a flaw in refusals and buffers.
 use super::protocol::Protocol;
 use crate::case::{Case, Records};
-use crate::library::{result, Call, Library, RECORD_LEN};
+use crate::library::{result, Call, Library, CHECKED, RECORD_LEN};
 use answers::calls::{outcomes, Outcome};
 use answers::image::{Buffers, Image};
 use answers::judge::Answer;
@@ -69,6 +69,11 @@ impl Library for Model<'_> {
             self.write(call, own);
         }
         let verdict = if self.has(Protocol::VerdictOnRefusal) && outcome.is_err() { self.verdict << 40 } else { 0 };
-        result(call, outcome, self.verdict) | verdict
+        let wrong_bit = match outcome {
+            Ok(_) if call == Call::Check => self.has(Protocol::UncheckedCheck),
+            Ok(_) => self.has(Protocol::CheckedOtherCall),
+            Err(_) => call == Call::Check && self.has(Protocol::CheckedRefusal),
+        };
+        (result(call, outcome, self.verdict) | verdict) ^ if wrong_bit { CHECKED } else { 0 }
     }
 }

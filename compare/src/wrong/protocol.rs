@@ -17,6 +17,9 @@ pub enum Protocol {
     CountOneLess,
     ExactFitRefused,
     VerdictOnRefusal,
+    UncheckedCheck,
+    CheckedRefusal,
+    CheckedOtherCall,
     Figure4IsZero,
     Figure5IsLast,
     Figure8IsZero,
@@ -33,7 +36,7 @@ pub enum Protocol {
 
 use Protocol::*;
 
-const VARIANTS: [(Protocol, &str); 22] = [
+const VARIANTS: [(Protocol, &str); 25] = [
     (RolesUnwritten, "role buffer unwritten"),
     (OwnUnwritten, "own buffer unwritten"),
     (RolesUnwrittenOn8, "refusal 8 without roles written"),
@@ -44,6 +47,9 @@ const VARIANTS: [(Protocol, &str); 22] = [
     (CountOneLess, "check's count one less than its records"),
     (ExactFitRefused, "an exact fit refused with 8"),
     (VerdictOnRefusal, "a verdict with a refusal"),
+    (UncheckedCheck, "an accepted check without bit 47"),
+    (CheckedRefusal, "a refused check with bit 47"),
+    (CheckedOtherCall, "another accepted call with bit 47"),
     (Figure4IsZero, "refusal 4 with figure 0"),
     (Figure5IsLast, "refusal 5 with the last guilty row"),
     (Figure8IsZero, "refusal 8 with figure 0"),

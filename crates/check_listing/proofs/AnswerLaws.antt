@@ -17,12 +17,12 @@ use Rattle.verdict.specs.Image.{Image, diagnostics}
 use Rattle.verdict.specs.Walk.{RowDiagnostic, diagnostic_bytes, diagnostic_fields}
 use Rattle.verdict.proofs.RangeLaws.{check_held}
 use Rattle.std.specs.Prelude.{Result, Ok, Err}
-use Rattle.validator.specs.Terms.{answer_of, checked_in}
+use Rattle.validator.specs.Terms.{answer_of, checked_of}
 use Rattle.validator.specs.declared.calls.Validation.{Validation}
 use Rattle.listing.specs.Listing.{done}
 use Rattle.listing.specs.Packcheck.{answer_text, diagnostic_room, max_diagnostics, output_text, refusal_text, result_text, role_room}
-use Rattle.check_listing.specs.Terms.{diagnostics_in}
-use Rattle.check_listing.proofs.RecordLaws.{diagnostics_read}
+use Rattle.verdict.specs.Records.{diagnostics_in}
+use Rattle.verdict.proofs.RecordLaws.{diagnostics_read}
 
 -- an accepted image
 module _ (i : Image) (c : Checked) (e : check_answer i role_room diagnostic_room ≡ accepted c) where
@@ -58,16 +58,16 @@ module _ (i : Image) (r : Result Validation Refusal) (answered : answer_of r ≡
 
   -- a verdict
   module _ (v : Validation) (e : r ≡ Ok v) where
-    accepted_is : check_answer i role_room diagnostic_room ≡ accepted (checked_in v)
+    accepted_is : check_answer i role_room diagnostic_room ≡ accepted (checked_of v)
     unfolding answer_of
     accepted_is = sym answered ∙ ap answer_of e
 
     pub result_count : v.count ≤ max_diagnostics
-    unfolding checked_in
-    result_count = (accepted_count i (checked_in v) accepted_is).1
+    unfolding checked_of
+    result_count = (accepted_count i (checked_of v) accepted_is).1
 
-    pub result_output : (old new : List ℕ) → length old ≡ diagnostic_room → new ≡ diagnostics_after i role_room old → result_text (diagnostics_in new v.count) (checked_in v) ≡ output_text (done i)
-    unfolding output_text answer_text checked_in
+    pub result_output : (old new : List ℕ) → length old ≡ diagnostic_room → new ≡ diagnostics_after i role_room old → result_text (diagnostics_in new v.count) (checked_of v) ≡ output_text (done i)
+    unfolding output_text answer_text checked_of
     result_output old new long after =
-        ap (λ (ds : List RowDiagnostic). result_text ds (checked_in v)) (diagnostics_are i (checked_in v) accepted_is old new long after)
+        ap (λ (ds : List RowDiagnostic). result_text ds (checked_of v)) (diagnostics_are i (checked_of v) accepted_is old new long after)
         ∙ ap (answer_text (diagnostics i)) (sym accepted_is)

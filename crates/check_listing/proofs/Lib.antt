@@ -3,6 +3,5 @@ pub mod DecimalsLaws
 pub mod LinesLaws
 pub mod ReadLaws
 pub mod PrintLaws
-pub mod RecordLaws
 pub mod AnswerLaws
 pub mod OutputLaws

@@ -25,7 +25,8 @@ use Rattle.verdict.specs.Walk.{Verdict, ValidForParser, Incomplete, Invalid, Row
 use Rattle.listing.specs.Text.{newline, space, text, line, digits, decimal, integer}
 use Rattle.listing.specs.Packcheck.{code_names, code_name, verdict_name, refusal_text, diagnostic_text, result_text}
 use Rattle.check_listing.specs.declared.printer.Printer.{Printer}
-use Rattle.check_listing.specs.Terms.{Prints, signed, diagnostic_in, diagnostics_in, longest_diagnostic, longest_answer}
+use Rattle.check_listing.specs.Terms.{Prints, longest_diagnostic, longest_answer}
+use Rattle.verdict.specs.Records.{signed, diagnostic_in, diagnostics_in}
 
 -- ---- one after the other
 

@@ -1,14 +1,13 @@
 -- What the code's own types stand for, and where it stands in a reading or a text: the terms in which its contracts cite the definitions of `listing`.
 -- Assumes nothing: these are definitions.
-use Rattle.std.specs.Prelude.{ℕ, suc, ◌+◌, ◌-◌, ◌*◌, ◌/◌, ◌^◌, ◌≤◌, ◌≡◌, cond, eqb, ltb, length, take, drop, ℤ, pos, negsuc}
+use Rattle.std.specs.Prelude.{ℕ, suc, ◌+◌, ◌*◌, ◌/◌, ◌^◌, ◌≤◌, ◌≡◌, cond, eqb, ltb, length, take, drop}
 use mathlib.Core.List.{List, [], ◌∷◌, flatten}
 use Rattle.std.proofs.Math.Option.{Option, none, some}
-use Rattle.opcodes.specs.Bytes.{overwrite, u32_at, u32_record}
-use Rattle.opcodes.specs.Lists.{tabulate}
+use Rattle.opcodes.specs.Bytes.{overwrite, u32_record}
 use Rattle.chunk.specs.Refusals.{Refused}
 use Rattle.chunk.specs.Table.{row_bytes}
-use Rattle.verdict.specs.Walk.{RowDiagnostic, diagnostic_bytes}
 use Rattle.verdict.specs.Image.{Image}
+use Rattle.verdict.specs.Walk.{diagnostic_bytes}
 use Rattle.listing.specs.Text.{newline, is_decimal, value_of}
 use Rattle.listing.specs.Longest.{input_bytes}
 use Rattle.listing.specs.Packcheck.{max_diagnostics, packcheck}
@@ -91,26 +90,9 @@ pub record Prints (old : Printer) (t : List ℕ) (new : Printer) : Type 0 where
   -- into the same buffer
   pub same : new.out.ghost_name ≡ old.out.ghost_name
 
--- the i32 that these 32 bits are
-unfoldable pub signed : ℕ → ℤ
-signed bits = cond (ltb bits (2 ^ 31)) (pos bits) (negsuc (0xffff_ffff - bits))
-
--- record i of a diagnostics buffer
-unfoldable pub diagnostic_in : List ℕ → ℕ → RowDiagnostic
-diagnostic_in buffer i =
-    let at = diagnostic_bytes * i in
-    record {
-      row = u32_at buffer at;
-      diagnostic = record { pc = signed (u32_at buffer (at + 4)); code = u32_at buffer (at + 8); value = signed (u32_at buffer (at + 12)) };
-    }
-
--- how many there are
+-- how many records a diagnostics buffer has
 abbrev pub records : List ℕ → ℕ
 records buffer = length buffer / diagnostic_bytes
-
--- its first records
-unfoldable pub diagnostics_in : List ℕ → ℕ → List RowDiagnostic
-diagnostics_in buffer count = tabulate count (diagnostic_in buffer)
 
 -- the longest line of a diagnostic: numbers of 10 digits, two of them signed, and a name of 16 characters
 abbrev pub longest_diagnostic : ℕ

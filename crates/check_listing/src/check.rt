@@ -1,6 +1,6 @@
 // The check of a listing: all that packcheck does but reading its input and writing its output.
 ghost use Rattle.std.specs.Prelude.{◌≡◌, ℕ, ◌≤◌, List, length, take};
-ghost use Rattle.check_listing.specs.Terms.{HasRoom, Prints, listing_of, unread as refused};
+ghost use Rattle.check_listing.specs.Terms.{HasRoom, Prints, listing_of, unread};
 ghost use Rattle.listing.specs.Longest.{input_bytes};
 ghost use Rattle.listing.specs.Packcheck.{output_text, packcheck};
 ghost use Rattle.opcodes.specs.Bytes.{overwrite};
@@ -37,17 +37,17 @@ pub fn check_listing(input: &[u8], output: &mut [u8; OUTPUT_LEN]) -> usize
     };
     match read_listing(input, &mut protos, &mut words) {
         Ok(listing) => print_check(&mut printer, &listing),
-        Err(unread) => print_unread(&mut printer, unread),
+        Err(why) => print_unread(&mut printer, why),
     }
     printer.end
 }
 
 // Refusals 9 and 10.
-fn print_unread(printer: &mut Printer, unread: Unread)
+fn print_unread(printer: &mut Printer, why: Unread)
     requires { HasRoom printer.old }
-    ensures { Prints printer.old (output_text (refused unread)) printer.new }
+    ensures { Prints printer.old (output_text (unread why)) printer.new }
 {
-    printer.refusal(unread.number() as usize, unread.figure())
+    printer.refusal(why.number() as usize, why.figure())
 }
 
 // The check of an image.

@@ -1,10 +1,11 @@
 // What packcheck writes: a refusal as the only line, or the diagnostics and the verdict.
 ghost use Rattle.std.specs.Prelude.{◌*◌};
 ghost use mathlib.Core.List.{[], ◌∷◌, ◌++◌, flat_map};
-ghost use Rattle.check_listing.specs.Terms.{HasRoomFor, Prints, diagnostic_in, diagnostics_in, longest_answer, longest_diagnostic, records};
+ghost use Rattle.check_listing.specs.Terms.{HasRoomFor, Prints, longest_answer, longest_diagnostic, records};
 ghost use Rattle.listing.specs.Packcheck.{diagnostic_text, refusal_text, result_text, verdict_name};
 ghost use Rattle.listing.specs.Text.{text as text_of};
-ghost use Rattle.validator.specs.Terms.{verdict_in};
+ghost use Rattle.validator.specs.Terms.{verdict_of_case};
+ghost use Rattle.verdict.specs.Records.{diagnostic_in, diagnostics_in};
 
 use crate::printer::Printer;
 use opcodes::bytes::read_u32;
@@ -24,7 +25,7 @@ impl Printer<'_> {
     // The diagnostics of these records, and the verdict.
     pub fn result(&mut self, diagnostics: &[u8], verdict: Verdict)
         requires { HasRoomFor self.old (longest_answer (records diagnostics.now)) }
-        ensures { Prints self.old (result_text (diagnostics_in diagnostics.now (records diagnostics.now)) (record { verdict = verdict_in verdict; count = records diagnostics.now })) self.new }
+        ensures { Prints self.old (result_text (diagnostics_in diagnostics.now (records diagnostics.now)) (record { verdict = verdict_of_case verdict; count = records diagnostics.now })) self.new }
     {
         self.text(b"row place code value\n");
         self.diagnostics(diagnostics);
@@ -57,7 +58,7 @@ impl Printer<'_> {
     // A verdict's name, and a space.
     fn verdict(&mut self, verdict: Verdict)
         requires { HasRoomFor self.old 15 }
-        ensures { Prints self.old (text_of (verdict_name (verdict_in verdict)) ++ (32 ∷ [])) self.new }
+        ensures { Prints self.old (text_of (verdict_name (verdict_of_case verdict)) ++ (32 ∷ [])) self.new }
     {
         match verdict {
             Verdict::ValidForParser => self.text(b"ValidForParser "),

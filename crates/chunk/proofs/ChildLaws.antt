@@ -7,12 +7,12 @@ use mathlib.Core.Bool.{Bool, true, false}
 use mathlib.Core.List.{List, [], ◌∷◌}
 use mathlib.Core.Option.{Option, none, some}
 use lib.Dec.{eqb, ltb}
-use lib.ListN.{length, drop, get_elem?, length-drop}
+use lib.ListN.{length, get_or, drop, get_elem?, length-drop, get_or-eq_default}
 use borrow.Author.Tests.{ltb-true, ltb-false, eqb-true, eqb-false}
 use Rattle.opcodes.specs.Lists.{take_while}
-use Rattle.chunk.specs.Table.{Row, row_bytes, row_at, rows, below, children, child_at}
+use Rattle.chunk.specs.Table.{Row, row_bytes, field_at, row_at, rows, below, children, child_at, child_of_row, proto_in}
 use Rattle.opcodes.proofs.ListLaws.{select_most, take_while_most}
-use Rattle.chunk.proofs.TableLaws.{length_rows, drop_rows, child_end, child_found, child_next, child_deeper}
+use Rattle.chunk.proofs.TableLaws.{length_rows, drop_rows, child_end, child_found, child_next, child_deeper, child_upvalues, child_missing}
 
 -- ---- one row more
 
@@ -106,3 +106,25 @@ found (suc n) table d at k c h e = by_row (ltb at (length table / row_bytes)) (l
           same = later.same;
           resumes = λ j. row_deeper table at d there (k + j) deep ∙ later.resumes j;
         }
+
+-- ---- the children of the prototype in a row
+
+module _ (table : List ℕ) (parent : ℕ) where
+  -- child k stands in row r, and the prototype has its upvalues
+  pub record ChildIn (k r : ℕ) : Type 0 where
+    pub there : r < length table / row_bytes
+    pub upvalues : get_or (proto_in table parent []).children k 0 ≡ field_at table r 3
+
+  pub child_in : (k r : ℕ) (c : Row) → child_of_row table parent k ≡ some c → c.row ≡ r → ChildIn k r
+  unfolding child_of_row proto_in row_at
+  child_in k r c e number =
+      let v = found (length table / row_bytes) table (row_at table parent).depth (suc parent) k c (omega arith) e in
+      record {
+        there = omega (arith, v.there);
+        upvalues = child_upvalues (row_at table parent) (drop (suc parent) (rows table)) [] k c e ∙ ap (λ (x : Row). x.upvalues) v.same ∙ ap (λ (n : ℕ). field_at table n 3) number;
+      }
+
+  -- a missing child has no upvalues
+  pub no_upvalues : (k : ℕ) → child_of_row table parent k ≡ none → get_or (proto_in table parent []).children k 0 ≡ 0
+  unfolding child_of_row proto_in
+  no_upvalues k e = get_or-eq_default (proto_in table parent []).children 0 (child_missing (row_at table parent) (drop (suc parent) (rows table)) [] k e)

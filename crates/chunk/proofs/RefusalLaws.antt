@@ -12,7 +12,7 @@ use Rattle.opcodes.specs.Lists.{All, all_nil, all_cons}
 use Rattle.chunk.specs.Table.{Row, row_bytes, rows}
 use Rattle.chunk.specs.Refusals.{Refused, refuse, refuse_if, or_else, depth_fits, bad_depth, fields_fit, bad_field, word_total, image_refusal, roles_refusal}
 use Rattle.chunk.specs.Roles.{role_bytes}
-use Rattle.opcodes.proofs.TestLaws.{t_and, or-false}
+use Rattle.opcodes.proofs.TestLaws.{t_and, or_false}
 
 -- none of two, and none of one
 pub or_else_none : (a b : Option Refused) → or_else a b ≡ none → (a ≡ none) × (b ≡ none)
@@ -82,7 +82,7 @@ image_kept table words e =
     let n3 = or_else_none _ _ n2.1 in
     let n4 = or_else_none _ _ n3.1 in
     let n5 = or_else_none _ _ n4.1 in
-    let full = or-false (ltb 16384 (length rs)) (ltb 4194304 (length words)) (refuse_if_none _ 3 0 n3.0) in
+    let full = or_false (ltb 16384 (length rs)) (ltb 4194304 (length words)) (refuse_if_none _ 3 0 n3.0) in
     let there : length table ≡ 0 → ⊥ = eqb-false (length table) 0 (refuse_if_none _ 1 0 n1.0) in
     record {
       some_row = omega arith;

@@ -111,12 +111,14 @@ next_executable p pc x =
     ∙ past_claimed p (pc + 1) (claims p pc (word_at p pc)) (drop (pc + 1) p.code)
     )
 
--- a word of these opcodes owns none
-pub owns_none : (p : Proto) (pc : ℕ) (ops : List ℕ) → T (disjoint ops (CLOSURE ∷ [])) → T (disjoint ops (SETLIST ∷ [])) → T (is (word_at p pc) ops) → owned p pc ≡ 0
+-- a word that is neither CLOSURE nor SETLIST owns none
+pub owns_nothing : (p : Proto) (pc : ℕ) → is (word_at p pc) (CLOSURE ∷ []) ≡ false → is (word_at p pc) (SETLIST ∷ []) ≡ false → owned p pc ≡ 0
 unfolding owned claims binding_count has_extra only
-owns_none p pc ops c s t =
-    by_cond (λ (n : ℕ). n ≡ 0) (executable_at p pc) (length (claims p pc (word_at p pc))) 0
-    (λ _. simp (is_not (word_at p pc) ops (CLOSURE ∷ []) c t, is_not (word_at p pc) ops (SETLIST ∷ []) s t)) (λ _. refl)
+owns_nothing p pc c s = by_cond (λ (n : ℕ). n ≡ 0) (executable_at p pc) (length (claims p pc (word_at p pc))) 0 (λ _. simp (c, s)) (λ _. refl)
+
+-- so does one of these opcodes
+pub owns_none : (p : Proto) (pc : ℕ) (ops : List ℕ) → T (disjoint ops (CLOSURE ∷ [])) → T (disjoint ops (SETLIST ∷ [])) → T (is (word_at p pc) ops) → owned p pc ≡ 0
+owns_none p pc ops c s t = owns_nothing p pc (is_not (word_at p pc) ops (CLOSURE ∷ []) c t) (is_not (word_at p pc) ops (SETLIST ∷ []) s t)
 
 -- the words after an executable one that it owns, as far as they exist, have the roles that it claims: whether it is truncated or not
 pub owned_role : (p : Proto) (pc j : ℕ) → Executable p pc → j < companions p pc → role_at p (pc + 1 + j) ≡ get_or (claims p pc (word_at p pc)) j Instruction
@@ -144,6 +146,13 @@ companion_unread p pc [] (v ∷ ws) zero w t = absurd t
 companion_unread p pc [] (v ∷ ws) (suc k) w t = ap (λ (l : List Role). Instruction ∷ l) (companion_unread p (suc pc) (claims p pc v) ws k w t)
 companion_unread p pc (r ∷ claimed) (v ∷ ws) zero w t = refl
 companion_unread p pc (r ∷ claimed) (v ∷ ws) (suc k) w t = ap (λ (l : List Role). r ∷ l) (companion_unread p (suc pc) claimed ws k w t)
+
+-- roles depend on the words and on the children alone
+pub roles_by_children : (p q : Proto) (e : p.children ≡ q.children) (pc : ℕ) (claimed : List Role) (ws : List ℕ) → roles_from p pc claimed ws ≡ roles_from q pc claimed ws
+unfolding roles_from claims binding_count
+roles_by_children p q e pc claimed [] = refl
+roles_by_children p q e pc [] (w ∷ ws) = rw e (ap (λ (l : List Role). Instruction ∷ l) (roles_by_children p q e (suc pc) (claims q pc w) ws))
+roles_by_children p q e pc (r ∷ claimed) (w ∷ ws) = ap (λ (l : List Role). r ∷ l) (roles_by_children p q e (suc pc) claimed ws)
 
 -- ---- claimed words
 

@@ -1,8 +1,8 @@
 -- Roles (document 01, "Roles"; luad's roles.rs). Assumes nothing: these are definitions.
-use Rattle.std.specs.Prelude.{ℕ, suc, ◌+◌, ◌-◌, min, Bool, true, false, ◌&&◌, cond, T, eqb, ltb, length, get_or, ℤ, pos, negsuc}
+use Rattle.std.specs.Prelude.{ℕ, suc, ◌+◌, ◌-◌, ◌*◌, ◌/◌, min, Bool, true, false, ◌&&◌, cond, T, eqb, ltb, ◌==◌, nat_lt, length, get_or, slice_index_or, ℤ, pos, negsuc}
 use mathlib.Core.List.{List, [], ◌∷◌, ◌++◌, flat_map}
 use Rattle.opcodes.specs.Lists.{only, tabulate}
-use Rattle.opcodes.specs.Bytes.{i32_record}
+use Rattle.opcodes.specs.Bytes.{i32_bits, u32_at, i32_record}
 use Rattle.opcodes.specs.Words.{is, field_bx, operand, C, CLOSURE, SETLIST}
 use Rattle.chunk.specs.Table.{Proto}
 
@@ -77,6 +77,12 @@ is_truncated p pc = ltb (companions p pc) (owned p pc)
 unfoldable pub binding_words : Proto → ℕ → ℕ
 binding_words p pc = cond (executable_at p pc) (existing p pc (binding_count p (word_at p pc))) 0
 
+-- the owner of a word at pc that has this role, or that pc where it is executable
+unfoldable pub last_owner : ℕ → Role → ℕ
+last_owner pc Instruction = pc
+last_owner pc (ClosureBinding owner index) = owner
+last_owner pc (SetlistExtra owner) = owner
+
 -- "two i32 a word: owner place and upvalue index; -1 -1 for executable, owner and -1 for a SETLIST's extra"
 unfoldable pub role_fields : Role → List ℤ
 role_fields Instruction = negsuc 0 ∷ negsuc 0 ∷ []
@@ -90,3 +96,22 @@ role_bytes = 8
 -- the records of roles, end to end, as bytes
 unfoldable pub records_of : List Role → List ℕ
 records_of rs = i32_record (flat_map role_fields rs)
+
+-- ---- the records read back
+
+-- the bits of the first field of a role's record
+unfoldable pub owner_field : Role → ℕ
+owner_field r = i32_bits (slice_index_or (role_fields r) 0 (pos 0))
+
+-- of the second field
+unfoldable pub index_field : Role → ℕ
+index_field r = i32_bits (slice_index_or (role_fields r) 1 (pos 0))
+
+-- the role whose fields have these bits
+unfoldable pub role_from : ℕ → ℕ → Role
+role_from owner index = cond (owner == 0xffff_ffff) Instruction (cond (index == 0xffff_ffff) (SetlistExtra owner) (ClosureBinding owner index))
+
+-- the role of the word at pc, from the records of its prototype. A pc past them counts as executable
+unfoldable pub role_in : List ℕ → ℕ → Role
+role_in records pc =
+    cond (nat_lt pc (length records / role_bytes)) (role_from (u32_at records (role_bytes * pc)) (u32_at records (role_bytes * pc + 4))) Instruction

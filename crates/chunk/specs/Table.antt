@@ -55,6 +55,10 @@ children d later = select (λ (r : Row). eqb r.depth (suc d)) (below d later)
 unfoldable pub child_at : ℕ → List Row → ℕ → Option Row
 child_at d later k = get_elem? (children d later) k
 
+-- child k of the prototype in row `parent`
+unfoldable pub child_of_row : List ℕ → ℕ → ℕ → Option Row
+child_of_row table parent k = child_at (row_at table parent).depth (drop (suc parent) (rows table)) k
+
 -- A prototype (the document's part) by itself: its words, its limits, and the number of upvalues of each of its children.
 -- A pc (the document's place) is an index into `code`
 pub record Proto : Type 0 where
@@ -74,6 +78,10 @@ proto_of r later words =
       stack = r.stack;
       children = map (λ (c : Row). c.upvalues) (children r.depth later);
     }
+
+-- the prototype of row i, from the words from its first on
+unfoldable pub proto_in : List ℕ → ℕ → List ℕ → Proto
+proto_in table i words = proto_of (row_at table i) (drop (suc i) (rows table)) words
 
 -- "All parts' words stand end to end, in row order"
 unfoldable pub protos_of : List Row → List ℕ → List Proto

@@ -2,16 +2,19 @@
 // them.
 #![tactic(auto)]
 
-ghost use Rattle.std.specs.Prelude.{◌≡◌, length};
-ghost use Rattle.luad51.specs.Results.{Guaranteed, ReadAs, Reads, ReadsCheck, check_result, count_result, packed, refused_result, verdict_number};
+ghost use Rattle.std.specs.Prelude.{◌≡◌, ◌+◌, ◌<◌, ◌^◌, false, true, length};
+ghost use Rattle.luad51.specs.Results.{Guaranteed, ReadAs, Reads, ReadsCheck, check_result, checked_bit, count_result, packed, refused_result, verdict_number};
 ghost use Rattle.chunk.specs.Calls.{bindings_after, bindings_answer, roles_after, roles_answer};
 ghost use Rattle.roles.specs.Terms.{answer_of, refused_of};
-ghost use Rattle.validator.specs.Terms.{answer_of as validationOf, image_of, verdict_in};
+ghost use Rattle.validator.specs.Terms.{answer_of as validationOf, image_of, verdict_of_case};
 ghost use Rattle.verdict.specs.Check.{check_answer, diagnostics_after};
 
 use roles::calls::{write_bindings, write_roles};
 use roles::refusals::Refusal;
 use validator::calls::{Validation, Verdict, validate_chunk_lua51};
+
+// The bit of a result that an accepted check sets, and nothing else.
+const CHECKED: u64 = 0x8000_0000_0000;
 
 // The roles call.
 #[unsafe(no_mangle)]
@@ -59,21 +62,22 @@ pub extern "C" fn luad51_check(
 }
 
 // The number of a refusal, or of diagnostics with the verdict's.
-#[tactic(auto, unfolding(crate::specs::Results::check_result, crate::specs::Results::ReadsCheck, validator::specs::Terms::answer_of, validator::specs::Terms::checked_in))]
+#[tactic(auto, unfolding(crate::specs::Results::check_result, crate::specs::Results::ReadsCheck, validator::specs::Terms::answer_of, validator::specs::Terms::checked_of))]
 fn check_result(answer: Result<Validation, Refusal>) -> u64
     ensures value { result ≡ check_result (validationOf answer) }
     ensures reads_check { ReadsCheck result (validationOf answer) }
 {
     match answer {
-        Ok(validation) => pack(validation.count, 0, verdict_number(validation.verdict)),
+        Ok(validation) => pack_checked(validation.count, verdict_number(validation.verdict)),
         Err(refusal) => refused_result(refusal),
     }
 }
 
 // The header's number of a verdict: the C interface fixes it.
-#[tactic(auto, unfolding(crate::specs::Results::verdict_number, validator::specs::Terms::verdict_in))]
+#[tactic(auto, unfolding(crate::specs::Results::verdict_number, validator::specs::Terms::verdict_of_case))]
 fn verdict_number(verdict: Verdict) -> u8
-    ensures { result ≡ verdict_number (verdict_in verdict) }
+    ensures value { result ≡ verdict_number (verdict_of_case verdict) }
+    ensures small { result < 2 ^ 7 }
 {
     match verdict {
         Verdict::ValidForParser => 0,
@@ -89,7 +93,7 @@ fn count_result(answer: Result<u32, Refusal>) -> u64
     ensures reads { Reads result (answer_of answer) }
 {
     match answer {
-        Ok(count) => pack(count, 0, 0),
+        Ok(count) => pack(count, 0),
         Err(refusal) => refused_result(refusal),
     }
 }
@@ -98,15 +102,24 @@ fn count_result(answer: Result<u32, Refusal>) -> u64
 #[tactic(auto, unfolding(crate::specs::Results::refused_result))]
 fn refused_result(refusal: Refusal) -> u64
     ensures value { result ≡ refused_result (refused_of refusal) }
-    ensures read_as { ReadAs result (refused_of refusal).number (refused_of refusal).figure 0 }
+    ensures read_as { ReadAs result (refused_of refusal).number (refused_of refusal).figure 0 false }
 {
-    pack(refusal.figure(), refusal.number(), 0)
+    pack(refusal.figure(), refusal.number())
 }
 
-// The three in one number, of which the header's accessors take each.
-fn pack(figure: u32, refusal: u8, verdict: u8) -> u64
-    ensures value { result ≡ packed figure refusal verdict }
-    ensures read_as { ReadAs result refusal figure verdict }
+// Both in one number, of which the header's accessors take each.
+fn pack(figure: u32, refusal: u8) -> u64
+    ensures value { result ≡ packed figure refusal 0 }
+    ensures read_as { ReadAs result refusal figure 0 false }
 {
-    (figure as u64) + 0x1_0000_0000 * (refusal as u64) + 0x100_0000_0000 * (verdict as u64)
+    (figure as u64) + 0x1_0000_0000 * (refusal as u64)
+}
+
+// The number of an accepted check: figure and verdict, and the bit that nothing else sets.
+fn pack_checked(figure: u32, verdict: u8) -> u64
+    requires { verdict < 2 ^ 7 }
+    ensures value { result ≡ packed figure 0 verdict + checked_bit }
+    ensures read_as { ReadAs result 0 figure verdict true }
+{
+    (figure as u64) + 0x100_0000_0000 * (verdict as u64) + CHECKED
 }

@@ -5,4 +5,5 @@ pub mod ListLaws
 pub mod OpcodeLaws
 pub mod PartLaws
 pub mod Signed
+pub mod SplitLaws
 pub mod TestLaws

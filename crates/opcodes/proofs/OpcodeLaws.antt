@@ -3,12 +3,14 @@ use Prim.Native.Nat.{ℕ, zero, suc, ◌≤◌, ◌<◌, suc-le-suc}
 use native.Mathlib.Nat.{le_of_suc-le-suc, not-suc-le-zero}
 use native.Mathlib.Omega.{arith}
 use mathlib.Core.Path.{◌≡◌, refl, sym, ◌∙◌, ap}
+use mathlib.Core.Bool.{Bool, true, false}
 use mathlib.Core.List.{List, [], ◌∷◌, map}
+use lib.Dec.{ltb}
 use lib.ListN.{length, get_or}
+use Rattle.std.proofs.Common.{ltb-false}
 use Rattle.opcodes.specs.Lists.{tabulate}
-use Rattle.opcodes.specs.Words.{number_of, opcodes, opcode_at, opcode_number, opcode_of}
+use Rattle.opcodes.specs.Words.{number_of, opcodes, opcode_at, opcode_of}
 use Rattle.opcodes.specs.declared.Opcode51.{Opcode51}
-use Rattle.opcodes.specs.declared.OpcodeField.{OpcodeField}
 use Rattle.opcodes.specs.declared.OpcodeField.TheVariants.{Known, Unknown}
 use Rattle.opcodes.proofs.ListLaws.{get_d_tabulate}
 
@@ -48,18 +50,18 @@ known_number n o q =
     ∙ ap (λ (ns : List ℕ). get_or ns n 0) (sym in_order)
     ∙ number_at opcodes n n o q
 
--- an unknown one keeps the number
-unknown_at : (os : List Opcode51) (k n m : ℕ) → opcode_at os k n ≡ Unknown m → n ≡ m
+-- an unknown one is past the list
+listed_known : (os : List Opcode51) (k n m : ℕ) → k < length os → opcode_at os k n ≡ Unknown m → ⊥
 unfolding opcode_at
-unknown_at [] k n m q = cc
-unknown_at (p ∷ os) zero n m q = let z : ◌≡◌ {A = ℕ} 0 1 = cc in absurd (omega arith)
-unknown_at (p ∷ os) (suc k) n m q = unknown_at os k n m q
+listed_known [] k n m h q = not-suc-le-zero h
+listed_known (o ∷ os) zero n m h q = let z : ◌≡◌ {A = ℕ} 0 1 = cc in absurd (omega arith)
+listed_known (o ∷ os) (suc k) n m h q = listed_known os k n m (le_of_suc-le-suc h) q
 
--- so no number is lost
-pub number_kept : (n : ℕ) → opcode_number (opcode_of n) ≡ n
-unfolding opcode_of opcode_number
-number_kept n = go (opcode_of n) refl
+-- so it is above the last number
+pub unknown_above : (n m : ℕ) → opcode_of n ≡ Unknown m → ltb 37 n ≡ true
+unfolding opcode_of opcodes
+unknown_above n m q = go (ltb 37 n) refl
   where
-    go : (o : OpcodeField) → opcode_of n ≡ o → opcode_number o ≡ n
-    go (Known o) q = sym (known_number n o q)
-    go (Unknown m) q = sym (unknown_at opcodes n n m q)
+    go : (b : Bool) → ltb 37 n ≡ b → ltb 37 n ≡ true
+    go true e = e
+    go false e = absurd (listed_known opcodes n n m (omega (arith, ltb-false 37 n e)) q)

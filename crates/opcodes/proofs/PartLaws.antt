@@ -1,11 +1,11 @@
 -- A part of a list of bytes: reading it, and pasting it back once it was written to. Assumes nothing.
 use Prim.Native.Nat.{ℕ, ◌+◌, ◌*◌, ◌≤◌, ◌<◌}
-use native.Mathlib.Nat.{add_assoc}
+use native.Mathlib.Nat.{add_assoc, add-zero}
 use native.Mathlib.Omega.{arith}
 use mathlib.Core.Path.{◌≡◌, sym, ◌∙◌, ap, ap₂}
 use mathlib.Core.List.{List, ◌++◌, append_assoc}
 use lib.ListN.{length, get_or, take, drop, length-append, length-drop, take-append-drop}
-use lib.Seq.{length-take-le, take-append-add, take-append-le, drop-append-add, drop-append-le, get_or-take, get_or-drop, ext_get_or}
+use lib.Seq.{length-take-le, take-append-add, take-append-le, take_at, drop-append-add, drop-append-le, drop-drop, get_or-take, get_or-drop, ext_get_or}
 use Rattle.opcodes.specs.Bytes.{u32_at, u32s, overwrite}
 use Rattle.opcodes.proofs.ByteLaws.{length_u32s, get_d_u32s, overwrite_fits}
 
@@ -65,3 +65,17 @@ module _ (xs : List ℕ) (a k i : ℕ) (new : List ℕ) (fits : i + length new �
       let front : length (take a xs) ≡ a = length-take-le a xs (omega arith) in
       paste_part (take a xs) (take k (drop a xs)) (drop k (drop a xs)) i new (omega arith)
       ∙ ap₂ (λ (l : List ℕ) (n : ℕ). overwrite l (n + i) new) (by_part xs a k) front
+
+-- a list's next part, from a on, and what is left after it
+pub record NextPart (s part rest : List ℕ) (a k : ℕ) : Type 0 where
+  pub within : a + k ≤ length s
+  pub part_is : part ≡ take k (drop a s)
+  pub rest_is : rest ≡ drop (a + k) s
+
+pub next_part : (s part rest : List ℕ) (a k : ℕ) → a ≤ length s → drop a s ≡ part ++ rest → length part ≡ k → NextPart s part rest a k
+next_part s part rest a k h e size =
+    record {
+      within = omega (arith, length-drop a s, ap length e, length-append part rest);
+      part_is = sym (take_at part rest k size) ∙ ap (take k) (sym e);
+      rest_is = sym (drop-append-add part rest 0) ∙ ap (λ (n : ℕ). drop n (part ++ rest)) (add-zero (length part) ∙ size) ∙ ap (drop k) (sym e) ∙ drop-drop k a s;
+    }

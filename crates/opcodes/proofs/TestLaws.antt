@@ -39,9 +39,9 @@ or_right false b t = t
 pub true≢false : {X : Type 0} → true ≡ false → X
 true≢false e = absurd (subst T e tt)
 
-pub or-false : (a b : Bool) → a || b ≡ false → (a ≡ false) × (b ≡ false)
-or-false true b e = true≢false e
-or-false false b e = (refl, e)
+pub or_false : (a b : Bool) → a || b ≡ false → (a ≡ false) × (b ≡ false)
+or_false true b e = true≢false e
+or_false false b e = (refl, e)
 
 -- ---- cases on a test
 

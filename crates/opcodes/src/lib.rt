@@ -3,7 +3,7 @@
 
 ghost use Rattle.std.specs.Prelude.{◌≡◌, Option, Some};
 ghost use Rattle.opcodes.specs.Names.{mode_name, opcode_name};
-ghost use Rattle.opcodes.specs.Words.{a_is_register, constant_index, decoded, field_of, is_constant, is_fixed_register, is_rk, mode_of, opcode_of, operand_in};
+ghost use Rattle.opcodes.specs.Words.{a_is_register, constant_index, decoded, field_of, is_constant, is_fixed_register, is_rk, mode_of, opcode_number, opcode_of, operand_in};
 
 pub mod bytes;
 
@@ -91,11 +91,11 @@ pub struct RawInstruction51 {
     pub sbx: i32,
 }
 
-// The opcode of a number, where it is known. A `match` and no table, since it compiles to a comparison with no load.
+// The opcode of a number, where it is known: a definition gives this number for each case. A `match` and no table, since it compiles to a comparison with no load.
 impl From<u8> for OpcodeField {
-    ghost from_gives = { λ n o. o ≡ opcode_of n };
+    ghost from_gives = { λ n o. (o ≡ opcode_of n) × (opcode_number o ≡ n) };
 
-    #[tactic(auto, unfolding(crate::specs::Words::opcode_of, crate::specs::Words::opcodes, crate::specs::Words::opcode_at))]
+    #[tactic(auto, unfolding(crate::specs::Words::opcode_of, crate::specs::Words::opcodes, crate::specs::Words::opcode_at, crate::specs::Words::opcode_number, crate::specs::Words::number_of))]
     fn from(val: u8) -> OpcodeField {
         match val {
             0 => OpcodeField::Known(Opcode51::Move),

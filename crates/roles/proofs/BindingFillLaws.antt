@@ -6,10 +6,9 @@ use mathlib.Core.Option.{Option, none, some}
 use lib.ListN.{length-replicate}
 use Rattle.opcodes.specs.Lists.{All, all_nil, all_cons}
 use Rattle.opcodes.specs.Bytes.{overwrite}
-use Rattle.chunk.specs.Table.{Row, row_bytes, field_at, row_at, rows, Proto, proto_of}
+use Rattle.chunk.specs.Table.{Row, row_bytes, field_at, row_at, rows, Proto, proto_of, child_of_row, proto_in}
 use Rattle.chunk.specs.Bindings.{Binding, unbound, Write, writes, first_binding, binding_total, set_binding, bind_rows, bindings, binding_bytes, binding_records}
 use Rattle.chunk.specs.Refusals.{roles_refusal, word_total}
-use Rattle.roles.specs.Terms.{child_of_row, proto_in}
 use Rattle.roles.specs.BindingSteps.{max_bindings, RoomForAllOrNone, BindsFrom, stored, bound_in, bound_row, bound_rows}
 use Rattle.opcodes.proofs.ListLaws.{foldl_next}
 use Rattle.opcodes.proofs.AllLaws.{all_imp}

@@ -5,10 +5,10 @@ use mathlib.Core.Option.{Option, none, some}
 use Rattle.opcodes.specs.Lists.{up_from, tabulate}
 use Rattle.opcodes.specs.Bytes.{u32s}
 use Rattle.opcodes.specs.Words.{is, field_bx, CLOSURE}
-use Rattle.chunk.specs.Table.{Row, row_bytes, row_at, rows, Proto, proto_of}
+use Rattle.chunk.specs.Table.{Row, row_bytes, row_at, rows, Proto, proto_of, child_of_row, proto_in}
 use Rattle.chunk.specs.Roles.{Role, ClosureBinding, has_extra, word_at, executable_at, binding_count, existing, binding_words}
 use Rattle.chunk.specs.Bindings.{Write, binding_of, write_of, writes_at, writes, first_binding, binding_total, binding_bytes}
-use Rattle.roles.specs.Terms.{records_between, child_of_row, proto_in, records_before, owned_bindings, child_bindings, companions_of}
+use Rattle.roles.specs.Terms.{records_between, records_before, owned_bindings, child_bindings, companions_of}
 use Rattle.roles.specs.BindingSteps.{bound_by, bound_from, bound_claim, BindsFrom, Bindable, stored, bound_in}
 use Rattle.roles.specs.declared.discovery.Companions.{Companions}
 use Rattle.roles.specs.declared.discovery.Companions.TheVariants.{None, Extra}
@@ -17,10 +17,9 @@ use Rattle.opcodes.proofs.TestLaws.{t_true}
 use Rattle.opcodes.proofs.ByteLaws.{length_u32s, length_overwrite}
 use Rattle.chunk.proofs.TableLaws.{child_upvalues}
 use Rattle.chunk.proofs.TotalLaws.{records_front, records_next}
-use Rattle.chunk.proofs.ChildLaws.{found}
+use Rattle.chunk.proofs.ChildLaws.{found, no_upvalues}
 use Rattle.chunk.proofs.WriteLaws.{writes_next}
 use Rattle.roles.proofs.CountLaws.{between_first}
-use Rattle.roles.proofs.SearchLaws.{no_upvalues}
 use Rattle.roles.proofs.MarkLaws.{owned_roles, existing_roles}
 use Rattle.roles.proofs.BindingStepLaws.{owned_bound, owned_bindable}
 use Rattle.roles.proofs.RolePassLaws.{OwnerHere, OwnerStep}

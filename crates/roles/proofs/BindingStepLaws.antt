@@ -14,7 +14,7 @@ use Rattle.opcodes.proofs.ListLaws.{foldl_next}
 use Rattle.opcodes.proofs.ByteLaws.{length_overwrite, overwrite_unfit}
 use Rattle.opcodes.proofs.PartLaws.{paste_part, by_part}
 use Rattle.chunk.proofs.BindingRecordLaws.{one_binding, length_bindings}
-use Rattle.roles.proofs.OwnerLaws.{has_opcode, has_other}
+use Rattle.opcodes.proofs.SplitLaws.{has_opcode, has_other}
 
 -- ---- a binding word
 

@@ -42,7 +42,7 @@ module _ {A : Type 0} (table words roleBuffer bindingBuffer : List ℕ) (a : Res
   refused_call r e =
       let short = too_short (length (image_bindings table words)) binding_bytes (length bindingBuffer) in
       let o = ap (λ (x : Option Refused). answer (or_else x short) (length (image_bindings table words))) (refused_by table words roleBuffer a judged r e) in
-      (o, ((refused-roles table words roleBuffer a judged r e).1, sym (bindings_untouched table words roleBuffer bindingBuffer (refused_of r) (sym o)).0))
+      (o, ((refused-roles table words roleBuffer a judged r e).1, sym (bindings_untouched table words roleBuffer bindingBuffer (refused_of r) (sym o))))
 
 -- ---- 8, and an accepted call
 

@@ -2,12 +2,11 @@ pub mod BindingFillLaws
 pub mod BindingPassLaws
 pub mod BindingStepLaws
 pub mod BindingsCallLaws
+pub mod CompanionLaws
 pub mod CountLaws
 pub mod ImageCheckLaws
 pub mod MarkLaws
-pub mod OwnerLaws
 pub mod RoleFillLaws
-pub mod RoleLookupLaws
 pub mod RolePassLaws
 pub mod RolesCallLaws
 pub mod SearchLaws

@@ -4,8 +4,8 @@ use mathlib.Core.List.{flat_map}
 use lib.Seq.{take-nil}
 use Rattle.opcodes.specs.Lists.{tabulate}
 use Rattle.opcodes.specs.Bytes.{i32_record, u32_record, overwrite}
-use Rattle.chunk.specs.Roles.{Role, Instruction, ClosureBinding, SetlistExtra, role_fields, role_bytes, records_of}
-use Rattle.roles.specs.Terms.{owner_field, index_field, owned_bindings, claimed_roles}
+use Rattle.chunk.specs.Roles.{Role, Instruction, ClosureBinding, SetlistExtra, role_fields, role_bytes, records_of, owner_field, index_field}
+use Rattle.roles.specs.Terms.{owned_bindings, claimed_roles}
 use Rattle.roles.specs.declared.discovery.Companions.{Companions}
 use Rattle.roles.specs.declared.discovery.Companions.TheVariants.{None, Bindings, Extra}
 use Rattle.opcodes.proofs.ListLaws.{length_tabulate, take_tabulate}

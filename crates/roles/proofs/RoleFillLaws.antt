@@ -1,20 +1,20 @@
 -- The roles of all prototypes, one after the other: what was written, and what is left, after each row. Assumes nothing.
-use Rattle.std.proofs.Common.{◌≡◌, ℕ, suc, ◌+◌, ◌-◌, ◌*◌, ◌/◌, ◌<◌, ◌≤◌, List, [], ◌∷◌, ◌++◌, length, take, drop, sym, refl, ap, ◌∙◌, ap₂, append-nil, add-zero, add-one, arith, length-drop, length-take, length-take-le, take_all, take-take}
+use Rattle.std.proofs.Common.{◌≡◌, ℕ, suc, ◌+◌, ◌-◌, ◌*◌, ◌/◌, ◌<◌, ◌≤◌, List, [], ◌∷◌, ◌++◌, length, take, drop, sym, refl, ap, ◌∙◌, ap₂, append-nil, add-zero, add-one, arith, length-take, take_all}
 use mathlib.Core.List.{flat_map}
 use mathlib.Core.Option.{Option, none}
 use Rattle.opcodes.specs.Bytes.{u32s, overwrite}
-use Rattle.chunk.specs.Table.{Row, row_bytes, field_at, row_at, rows, Proto, proto_of, protos_of, protos}
+use Rattle.chunk.specs.Table.{Row, row_bytes, field_at, row_at, rows, Proto, proto_of, protos_of, protos, proto_in}
 use Rattle.chunk.specs.Roles.{Role, roles, role_bytes, records_of}
 use Rattle.chunk.specs.Refusals.{Refused, word_total, roles_refusal}
 use Rattle.chunk.specs.Calls.{filled, roles_after}
-use Rattle.roles.specs.Terms.{proto_in}
 use Rattle.opcodes.proofs.ListLaws.{flat_map_append}
 use Rattle.opcodes.proofs.ByteLaws.{length_u32s, length_overwrite}
-use Rattle.opcodes.proofs.PartLaws.{u32s_part, paste}
+use Rattle.opcodes.proofs.PartLaws.{paste}
 use Rattle.chunk.proofs.TableLaws.{length_rows, drop_rows, length_protos_of}
 use Rattle.chunk.proofs.TotalLaws.{words_front, words_next, protos_drop}
 use Rattle.chunk.proofs.RefusalLaws.{ImageKept, roles_kept}
 use Rattle.chunk.proofs.RoleBufferLaws.{length_roles, words_before, words_before_lem}
+use Rattle.chunk.proofs.RowPartLaws.{part, part_proto}
 use Rattle.chunk.proofs.RoleRecordLaws.{length_records, records_none, records_next}
 use Rattle.roles.proofs.RolePassLaws.{take_front}
 
@@ -26,34 +26,16 @@ roles_most table row ws = omega (arith, length_roles (proto_in table row ws), le
 -- ---- the part of one row
 
 module _ (table words : List ℕ) (row first next : ℕ) (stated : first + (row_at table row).words ≡ next) (there : 4 * next ≤ length words) where
-  -- its words
-  abbrev part : List ℕ
-  part = take (4 * next - 4 * first) (drop (4 * first) words)
-
-  pub part_length : length part ≡ 4 * (row_at table row).words
-  part_length = length-take-le (4 * next - 4 * first) (drop (4 * first) words) (omega (arith, length-drop (4 * first) words)) ∙ omega arith
-
-  pub part_proto : proto_in table row (u32s part) ≡ proto_in table row (drop first (u32s words))
-  unfolding proto_in proto_of
-  part_proto =
-      let n = (row_at table row).words in
-      let size : 4 * next - 4 * first ≡ 4 * n = omega arith in
-      let same : take n (u32s part) ≡ take n (drop first (u32s words)) =
-      ap (λ (k : ℕ). take n (u32s (take k (drop (4 * first) words)))) size
-      ∙ ap (take n) (u32s_part words first n (omega arith))
-      ∙ take-take n n (drop first (u32s words)) (omega arith) in
-      rw same
-
   -- the roles written to its part of a buffer
   pub part_written : (out part' : List ℕ) → role_bytes * next ≤ length out
-      → part' ≡ overwrite (take (role_bytes * next - role_bytes * first) (drop (role_bytes * first) out)) 0 (records_of (roles (proto_in table row (u32s part))))
+      → part' ≡ overwrite (take (role_bytes * next - role_bytes * first) (drop (role_bytes * first) out)) 0 (records_of (roles (proto_in table row (u32s (part words first next)))))
       → take (role_bytes * first) out ++ (part' ++ drop (role_bytes * next - role_bytes * first) (drop (role_bytes * first) out)) ≡ overwrite out (role_bytes * first) (records_of (roles (proto_in table row (drop first (u32s words)))))
   part_written out part' room e =
-      let new = records_of (roles (proto_in table row (u32s part))) in
-      let size : length new ≤ role_bytes * next - role_bytes * first = omega (arith, length_records (roles (proto_in table row (u32s part))), roles_most table row (u32s part)) in
+      let new = records_of (roles (proto_in table row (u32s (part words first next)))) in
+      let size : length new ≤ role_bytes * next - role_bytes * first = omega (arith, length_records (roles (proto_in table row (u32s (part words first next)))), roles_most table row (u32s (part words first next))) in
       ap (λ (l : List ℕ). take (role_bytes * first) out ++ (l ++ drop (role_bytes * next - role_bytes * first) (drop (role_bytes * first) out))) e
       ∙ paste out (role_bytes * first) (role_bytes * next - role_bytes * first) 0 new (omega arith) (omega arith)
-      ∙ ap₂ (λ (n : ℕ) (p : Proto). overwrite out n (records_of (roles p))) (add-zero (role_bytes * first)) part_proto
+      ∙ ap₂ (λ (n : ℕ) (p : Proto). overwrite out n (records_of (roles p))) (add-zero (role_bytes * first)) (part_proto table words row first next stated there)
 
 -- ---- row by row
 

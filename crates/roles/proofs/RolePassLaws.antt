@@ -4,9 +4,9 @@ use mathlib.Core.Path.{subst⁻¹}
 use Rattle.opcodes.specs.Lists.{only}
 use Rattle.opcodes.specs.Bytes.{u32_at, u32s, overwrite}
 use Rattle.opcodes.specs.Words.{is, CLOSURE}
-use Rattle.chunk.specs.Table.{row_at, Proto, proto_of}
+use Rattle.chunk.specs.Table.{row_at, Proto, proto_of, proto_in}
 use Rattle.chunk.specs.Roles.{Role, Instruction, binding_count, has_extra, claims, roles_from, roles, role_at, word_at, Executable, existing, companions, role_bytes, records_of}
-use Rattle.roles.specs.Terms.{proto_in, child_bindings, companions_of, claimed_roles}
+use Rattle.roles.specs.Terms.{child_bindings, companions_of, claimed_roles}
 use Rattle.roles.specs.declared.discovery.Companions.{Companions}
 use Rattle.opcodes.proofs.ByteLaws.{length_u32s, get_d_u32s, length_overwrite}
 use Rattle.chunk.proofs.RoleLaws.{role_executable, executable, owned_count, past_claims, no_both}

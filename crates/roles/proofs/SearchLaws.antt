@@ -1,17 +1,16 @@
 -- The search for a child over the rows of a table, one at a time, and where it can be resumed. Assumes nothing.
 use Rattle.std.proofs.Common.{◌≡◌, ℕ, suc, ◌+◌, ◌-◌, ◌/◌, ◌%◌, ◌^◌, ◌<◌, ◌≤◌, Bool, true, false, eqb, ltb, List, [], length, get_or, drop, set, sym, refl, ap, ◌∙◌, ap₂, add-zero, zero-add, add-one, arith, length-set, get_or-set_other, get_or-set_same, ltb-false, ltb-true, eqb-true}
 use mathlib.Core.Option.{Option, none, some}
-use lib.ListN.{get_or-eq_default}
 use borrow.Author.Tests.{eqb-false}
-use Rattle.chunk.specs.Table.{Row, row_bytes, field_at, row_at, rows, children, child_at}
 use Rattle.std.specs.declared.option.Option.{Option as Maybe}
 use Rattle.std.specs.declared.option.Option.TheVariants as maybe
-use Rattle.roles.specs.Terms.{records_between, child_from, child_of_row, found_at, in_index, RoomForChildren, Tracks, proto_in, records_before, owned_bindings, child_bindings}
+use Rattle.chunk.specs.Table.{Row, row_bytes, field_at, row_at, rows, children, child_at, child_of_row, proto_in}
+use Rattle.roles.specs.Terms.{records_between, child_from, found_at, in_index, RoomForChildren, Tracks, records_before, owned_bindings, child_bindings}
 use Rattle.roles.specs.declared.table.Child.{Child}
 use Rattle.roles.specs.declared.search.Entry.{Entry}
 use Rattle.roles.specs.declared.discovery.Companions.TheVariants.{None}
-use Rattle.chunk.proofs.TableLaws.{child_upvalues, child_missing, element_missing}
-use Rattle.chunk.proofs.ChildLaws.{element_past_end, too_few, row_end, row_found, row_next, row_deeper, found}
+use Rattle.chunk.proofs.TableLaws.{element_missing}
+use Rattle.chunk.proofs.ChildLaws.{element_past_end, too_few, row_end, row_found, row_next, row_deeper, found, child_in, no_upvalues}
 use Rattle.roles.proofs.CountLaws.{none_between, between_join, between_one, wrapped}
 
 -- ---- a child as the code has it, with the place of its first binding record
@@ -171,7 +170,7 @@ module _ (table : List ℕ) (parent : ℕ) where
     pub resumes : (j : ℕ) → child_of_row table parent (k + 1 + j) ≡ child_at (row_at table parent).depth (drop (r + 1) (rows table)) j
 
   pub found_child : (k r first : ℕ) → child_at_row first r ≡ child_of k → FoundChild k r first
-  unfolding child_from child_of_row proto_in row_at records_before
+  unfolding child_from child_of_row row_at records_before
   found_child k r first e = go (child_of_row table parent k) refl e
     where
       go : (o : Option Row) → child_of_row table parent k ≡ o → child_at_row first r ≡ child_from table (suc parent) 0 o → FoundChild k r first
@@ -188,7 +187,7 @@ module _ (table : List ℕ) (parent : ℕ) where
             later = omega (arith, v.after);
             counts = count ∙ ap (λ (n : ℕ). records_between table (suc parent) n % 2 ^ 32) number;
             before = count ∙ sym (ap (records_before table parent) f);
-            upvalues = child_upvalues (row_at table parent) (drop (suc parent) (rows table)) [] k c f ∙ ap (λ (x : Row). x.upvalues) v.same ∙ ap (λ (n : ℕ). field_at table n 3) number;
+            upvalues = (child_in table parent k r c f number).upvalues;
             resumes = λ j.
                 let on : k + 1 + j ≡ k + suc j = omega arith in
                 let past : suc c.row ≡ r + 1 = omega arith in
@@ -201,19 +200,9 @@ module _ (table : List ℕ) (parent : ℕ) where
   pub missing : (k : ℕ) → maybe.None ≡ child_of k → child_of_row table parent k ≡ none
   missing k e = not_found table (suc parent) 0 (child_of_row table parent k) e
 
-  -- a missing child has no upvalues
-  pub no_upvalues : (k : ℕ) → child_of_row table parent k ≡ none → get_or (proto_in table parent []).children k 0 ≡ 0
-  unfolding child_of_row proto_in
-  no_upvalues k e = get_or-eq_default (proto_in table parent []).children 0 (child_missing (row_at table parent) (drop (suc parent) (rows table)) [] k e)
-
   pub missing_child : (k : ℕ) → maybe.None ≡ child_of k → None ≡ child_bindings table parent k
   unfolding child_bindings owned_bindings
-  missing_child k e = sym (ap (λ (n : ℕ). owned_bindings n (records_before table parent (child_of_row table parent k))) (no_upvalues k (missing k e)))
-
-  -- a search that begins right after the row finds its children
-  pub anew : (k d : ℕ) (c : Maybe Child) → d ≡ field_at table parent 0 → c ≡ search table (parent + 1) d k 0 → c ≡ child_of k
-  unfolding child_of_row row_at
-  anew k d c e f = f ∙ rw (e, add-one)
+  missing_child k e = sym (ap (λ (n : ℕ). owned_bindings n (records_before table parent (child_of_row table parent k))) (no_upvalues table parent k (missing k e)))
 
   -- ---- what is known of them
 

@@ -1,15 +1,14 @@
 -- What the code's own types stand for: the terms in which its contracts cite the other definitions. Assumes nothing: these are definitions.
-use Rattle.std.specs.Prelude.{◌≡◌, ℕ, zero, suc, ◌+◌, ◌*◌, ◌/◌, ◌%◌, ◌^◌, ◌<◌, ◌≤◌, cond, List, [], ◌∷◌, length, drop, pos, ◌==◌, nat_lt, slice_index, slice_index_or, slice_range}
+use Rattle.std.specs.Prelude.{◌≡◌, ℕ, zero, suc, ◌+◌, ◌/◌, ◌%◌, ◌^◌, ◌<◌, ◌≤◌, cond, List, [], ◌∷◌, length, drop, slice_index, slice_index_or, slice_range}
 use Rattle.std.proofs.Math.Option.{Option, none, some}
 use Rattle.std.specs.declared.option.Option.{Option as Maybe}
 use Rattle.std.specs.declared.option.Option.TheVariants as maybe
 use Rattle.std.specs.declared.result.Result.{Result}
 use Rattle.std.specs.declared.result.Result.TheVariants.{Ok, Err}
-use Rattle.opcodes.specs.Bytes.{u32_at, i32_bits}
 use Rattle.opcodes.specs.Lists.{tabulate, total}
 use Rattle.opcodes.specs.Words.{is, field_bx, CLOSURE}
-use Rattle.chunk.specs.Table.{Row, row_bytes, field_at, row_at, rows, child_at, Proto, proto_of}
-use Rattle.chunk.specs.Roles.{Role, Instruction, ClosureBinding, SetlistExtra, has_extra, role_fields, role_bytes}
+use Rattle.chunk.specs.Table.{Row, row_bytes, field_at, row_at, rows, child_at, child_of_row, proto_in}
+use Rattle.chunk.specs.Roles.{Role, Instruction, ClosureBinding, SetlistExtra, has_extra}
 use Rattle.chunk.specs.Bindings.{binding_total}
 use Rattle.chunk.specs.Refusals.{Refused}
 use Rattle.chunk.specs.Calls.{Answer, refused, accepted}
@@ -73,10 +72,6 @@ unfoldable pub child_from : List ℕ → ℕ → ℕ → Option Row → Maybe Ch
 child_from table at first none = maybe.None
 child_from table at first (some r) = maybe.Some (record { first = (first + records_between table at r.row) % 2 ^ 32; row = r.row })
 
--- child k of the prototype in row `parent`
-unfoldable pub child_of_row : List ℕ → ℕ → ℕ → Option Row
-child_of_row table parent k = child_at (row_at table parent).depth (drop (suc parent) (rows table)) k
-
 -- the child that an entry of an index is
 abbrev pub found_at : Entry → Maybe Child
 found_at e = maybe.Some (record { first = e.first; row = e.row })
@@ -104,10 +99,6 @@ pub record Tracks (table : List ℕ) (parent : ℕ) (index : List Entry) (known 
 
 -- ---- companions
 
--- the prototype of row i, from the words from its first on
-unfoldable pub proto_in : List ℕ → ℕ → List ℕ → Proto
-proto_in table i words = proto_of (row_at table i) (drop (suc i) (rows table)) words
-
 -- so many binding records, modulo 2 ^ 32, stand between those of a row and those of its child
 unfoldable pub records_before : List ℕ → ℕ → Option Row → ℕ
 records_before table row none = 0
@@ -132,7 +123,7 @@ claimed_roles pc None = []
 claimed_roles pc (Bindings n first) = tabulate n (ClosureBinding pc)
 claimed_roles pc Extra = SetlistExtra pc ∷ []
 
--- ---- the records of a role buffer
+-- ---- roles
 
 -- a role
 abbrev pub role_of : Lua51PhysicalRole → Role
@@ -145,20 +136,3 @@ abbrev pub companion_pc : Role → Maybe ℕ
 companion_pc Instruction = maybe.None
 companion_pc (ClosureBinding owner index) = maybe.Some owner
 companion_pc (SetlistExtra owner) = maybe.Some owner
-
--- the bits of its first field
-unfoldable pub owner_field : Role → ℕ
-owner_field r = i32_bits (slice_index_or (role_fields r) 0 (pos 0))
-
--- of the second field
-unfoldable pub index_field : Role → ℕ
-index_field r = i32_bits (slice_index_or (role_fields r) 1 (pos 0))
-
--- the role whose fields have these bits
-unfoldable pub role_from : ℕ → ℕ → Role
-role_from owner index = cond (owner == 0xffff_ffff) Instruction (cond (index == 0xffff_ffff) (SetlistExtra owner) (ClosureBinding owner index))
-
--- the role of the word at pc, from the records of its prototype. A pc past them counts as executable
-unfoldable pub role_in : List ℕ → ℕ → Role
-role_in records pc =
-    cond (nat_lt pc (length records / role_bytes)) (role_from (u32_at records (role_bytes * pc)) (u32_at records (role_bytes * pc + 4))) Instruction

@@ -6,9 +6,9 @@ ghost use Rattle.chunk.specs.Calls.{bindings_after, bindings_answer, roles_after
 ghost use Rattle.chunk.specs.Bindings.{writes};
 ghost use Rattle.chunk.specs.Refusals.{max_rows, max_word_bytes, roles_refusal};
 ghost use Rattle.chunk.specs.Roles.{records_of, role_bytes, roles as protoRoles};
-ghost use Rattle.chunk.specs.Table.{row_at, row_bytes};
+ghost use Rattle.chunk.specs.Table.{proto_in, row_at, row_bytes};
 ghost use Rattle.roles.specs.BindingSteps.{BindsFrom, RoomForAllOrNone, bound_in, bound_rows};
-ghost use Rattle.roles.specs.Terms.{RoomForChildren, answer_of, proto_in};
+ghost use Rattle.roles.specs.Terms.{RoomForChildren, answer_of};
 ghost use Rattle.std.specs.declared.result.Result.TheVariants.{Err};
 ghost use Rattle.roles.specs.declared.refusals.Refusal.TheVariants.{BufferTooShort};
 

@@ -5,9 +5,9 @@ ghost use Rattle.opcodes.specs.Lists.{tabulate};
 ghost use Rattle.chunk.specs.Bindings.{writes};
 ghost use Rattle.chunk.specs.Refusals.{max_rows, max_word_bytes};
 ghost use Rattle.chunk.specs.Roles.{ClosureBinding, records_of, role_bytes, roles};
-ghost use Rattle.chunk.specs.Table.{row_at, row_bytes};
+ghost use Rattle.chunk.specs.Table.{proto_in, row_at, row_bytes};
 ghost use Rattle.roles.specs.BindingSteps.{BindsFrom, bound_in};
-ghost use Rattle.roles.specs.Terms.{RoomForChildren, child_bindings, claimed_roles, companions_of, owned_bindings, proto_in};
+ghost use Rattle.roles.specs.Terms.{RoomForChildren, child_bindings, claimed_roles, companions_of, owned_bindings};
 ghost use Rattle.roles.specs.declared.discovery.Companions.TheVariants.{Extra, None};
 
 use crate::bindings::{CompanionWords, bind_claim};
@@ -73,7 +73,7 @@ pub(crate) fn word_at(code: &[u8], pc: usize) -> u32
 
 // What an executable word of the row owns. An owner is told by the number of its opcode: matched by `Opcode51`, which makes a jump, the roles call
 // on words of any bits takes 6.8 ms and not 2.7 (220,000 mispredicted branches and not 70,000 in two calls by cachegrind; minima of 60 turns).
-#[tactic(auto, using(crate::proofs::OwnerLaws::owns_bindings, crate::proofs::OwnerLaws::owns_extra, crate::proofs::OwnerLaws::owns_nothing))]
+#[tactic(auto, using(crate::proofs::CompanionLaws::owns_bindings, crate::proofs::CompanionLaws::owns_extra, crate::proofs::CompanionLaws::owns_nothing))]
 fn claim_of(children: &mut Children, word: u32) -> Companions
     ensures owned { result ≡ companions_of children.old.parent.protos.now children.old.parent.number word }
     ensures same_parent { children.new.parent ≡ children.old.parent }

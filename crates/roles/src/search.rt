@@ -2,8 +2,8 @@
 // all searches of a prototype together pass the rows below it once, in whatever order its children are named.
 ghost use Rattle.std.specs.Prelude.{◌≡◌, suc, ◌-◌, ◌/◌, ◌<◌, ◌≤◌, length};
 ghost use Rattle.chunk.specs.Refusals.{max_rows};
-ghost use Rattle.chunk.specs.Table.{row_bytes};
-ghost use Rattle.roles.specs.Terms.{RoomForChildren, Tracks, child_from, child_of_row};
+ghost use Rattle.chunk.specs.Table.{child_of_row, row_bytes};
+ghost use Rattle.roles.specs.Terms.{RoomForChildren, Tracks, child_from};
 
 use crate::table::{Child, Column, ROW_BYTES, Row, find_child};
 

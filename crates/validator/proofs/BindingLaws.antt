@@ -1,65 +1,28 @@
 -- The companions of a CLOSURE: what each adds, and that they are those up to the next executable word. Assumes nothing.
-use Rattle.std.proofs.Common.{◌≡◌, ℕ, ◌+◌, ◌-◌, ◌*◌, ◌/◌, ◌<◌, ◌≤◌, Bool, true, false, cond, not, ◌&&◌, T, eqb, ltb, leb, List, [], ◌∷◌, ◌++◌, length, pos, negsuc, sym, refl, ap, ◌∙◌, ap₂, true≢false, append-nil, add-zero, arith, ltb-false, ltb-true, lt-ltb, leb-false, leb-true}
-use mathlib.Core.Bool.{or-false, false≢true}
+use Rattle.std.proofs.Common.{◌≡◌, ℕ, ◌+◌, ◌-◌, ◌*◌, ◌/◌, ◌<◌, ◌≤◌, Bool, true, false, not, ◌&&◌, ◌||◌, T, eqb, ltb, leb, List, [], ◌∷◌, ◌++◌, length, sym, refl, ap, ◌∙◌, true≢false, append-nil, add-zero, arith, ltb-false, ltb-true, ne_eqb, le-ltb, lt-ltb, leb-false, leb-true}
+use mathlib.Core.Bool.{false≢true}
 use mathlib.Core.List.{flat_map, flatten}
 use lib.ListN.{get_or-eq_default}
-use Rattle.std.specs.Bool.{then_some}
-use Rattle.std.specs.Prelude.{Option}
-use Rattle.opcodes.specs.Bytes.{u32_at, i32_bits}
+use Rattle.opcodes.specs.Bytes.{u32_at}
 use Rattle.opcodes.specs.Lists.{elem, only, up_from}
-use Rattle.opcodes.specs.Words.{B, opcode, operand, is, decoded, CLOSURE, SETLIST}
+use Rattle.opcodes.specs.Words.{B, opcode, operand, is, decoded, GETUPVAL, MOVE, CLOSURE, SETLIST}
 use Rattle.opcodes.specs.declared.RawInstruction51.{RawInstruction51}
 use Rattle.opcodes.proofs.ListLaws.{flat_map_append, up_from_append}
-use Rattle.opcodes.proofs.TestLaws.{t_true, is_not, by_cond}
-use Rattle.chunk.specs.Roles.{Instruction, is_executable, Executable, executable_at, role_at, word_at, roles, owned, existing, companions, binding_count, binding_words, has_extra}
+use Rattle.opcodes.proofs.TestLaws.{t_true, is_not, or_false, by_cond}
+use Rattle.chunk.specs.Roles.{Instruction, is_executable, Executable, executable_at, role_at, word_at, roles, owned, existing, companions, binding_count, binding_words, has_extra, role_in}
 use Rattle.chunk.specs.Table.{Proto}
-use Rattle.roles.specs.Terms.{role_in}
 use Rattle.chunk.proofs.RoleBufferLaws.{length_roles}
 use Rattle.chunk.proofs.RoleLaws.{exists, next_executable, owned_count, companion_unexecutable}
 use Rattle.verdict.specs.Diagnostics.{Diagnostic, diagnostic, not_below, opcode_value, binding_diagnostics}
 use Rattle.verdict.specs.Operands.{is_unknown, is_binding, captured_register, captured_upvalue}
-use Rattle.validator.specs.Terms.{Describes, as_list}
-use Rattle.validator.specs.Steps.{State, emitted_if, emit_all}
+use Rattle.validator.specs.Terms.{Describes}
+use Rattle.validator.specs.Steps.{State, emitted, emit_all}
 use Rattle.validator.specs.declared.prototype.Prototype.{Prototype}
-use Rattle.validator.proofs.EmitLaws.{emits_only, emits_then, emits_none}
+use Rattle.validator.proofs.EmitLaws.{emits_bits, emits_word, emits_then, emits_none}
 use Rattle.validator.proofs.FaultLaws.{claims_count}
-use Rattle.validator.proofs.OperandLaws.{named_if}
 use Rattle.validator.proofs.DescribedLaws.{looked_up, word_read, words_of_lem}
 
 -- ---- one
-
-module _ (r : RawInstruction51) (w : ℕ) (split : r ≡ decoded w) where
-  number_of_lem : r.opcode_num ≡ opcode w
-  unfolding decoded
-  number_of_lem = ap (λ (x : RawInstruction51). x.opcode_num) split
-
-  -- what it captures under an opcode
-  pub captured : (op : ℕ) (o : Option ℕ) → o ≡ then_some (eqb r.opcode_num op) r.b → as_list o ≡ only (is w (op ∷ [])) (operand B w)
-  unfolding decoded is
-  captured op o e =
-      rw e
-      (named_if (eqb r.opcode_num op) r.b
-      ∙ ap (λ (x : RawInstruction51). only (eqb x.opcode_num op) x.b) split
-      ∙ ap (λ (b : Bool). only b (operand B w)) (sym (or-false (eqb (opcode w) op))))
-
--- its opcode as bits
-opcode_bits : (w : ℕ) → cond (ltb 37 (opcode w)) 4294967295 (opcode w) ≡ i32_bits (opcode_value w)
-unfolding opcode_value is_unknown i32_bits
-opcode_bits w = go (ltb 37 (opcode w))
-  where
-    go : (b : Bool) → cond b 4294967295 (opcode w) ≡ i32_bits (cond b (negsuc 0) (pos (opcode w)))
-    go true = refl
-    go false = refl
-
--- code 17
-pub bad_binding : (row pc w : ℕ) (r : RawInstruction51) → r ≡ decoded w → (b : Bool) (v : ℕ) (s t : State) → b ≡ elem r.opcode_num (0 ∷ 4 ∷ []) → v ≡ cond (ltb 37 r.opcode_num) 4294967295 r.opcode_num
-    → (o : Option ℕ) → o ≡ then_some (not b) v → t ≡ emitted_if row pc 17 o s → t ≡ emit_all row (only (not (is_binding w)) (diagnostic pc 17 (opcode_value w))) s
-unfolding is_binding is i32_bits
-bad_binding row pc w r split b v s t e f o h g =
-    let n = number_of_lem r w split in
-    let opcode = f ∙ ap (λ (m : ℕ). cond (ltb 37 m) 4294967295 m) n ∙ opcode_bits w in
-    let test = e ∙ ap (λ (m : ℕ). elem m (0 ∷ 4 ∷ [])) n in
-    emits_only row (not (is_binding w)) (diagnostic pc 17 (opcode_value w)) o s t (h ∙ ap₂ (λ (x : Bool) (y : ℕ). then_some (not x) y) test opcode) g
 
 -- all that the binding word w at pc adds, with the limits that the code has
 abbrev pub binding_adds : Prototype → ℕ → ℕ → List Diagnostic
@@ -70,6 +33,40 @@ binding_adds q pc w =
     ∷ not_below pc 8 q.upvalues (captured_upvalue w)
     ∷ []
     )
+
+-- by the case of its opcode
+module _ (row : ℕ) (q : Prototype) (pc w : ℕ) (r : RawInstruction51) (split : r ≡ decoded w) (s t : State) where
+  number_of_lem : opcode w ≡ r.opcode_num
+  unfolding decoded
+  number_of_lem = sym (ap (λ (x : RawInstruction51). x.opcode_num) split)
+
+  -- what it captures
+  captured : operand B w ≡ r.b
+  unfolding decoded
+  captured = sym (ap (λ (x : RawInstruction51). x.b) split)
+
+  pub binds_register : r.opcode_num ≡ MOVE → t ≡ emit_all row (not_below pc 12 q.stack (r.b ∷ [])) s → t ≡ emit_all row (binding_adds q pc w) s
+  unfolding is_binding is captured_register captured_upvalue only flatten not_below
+  binds_register e f = rw (number_of_lem ∙ e, captured) (f ∙ ap (λ (ds : List Diagnostic). emit_all row ds s) (sym (append-nil _)))
+
+  pub binds_upvalue : r.opcode_num ≡ GETUPVAL → t ≡ emit_all row (not_below pc 8 q.upvalues (r.b ∷ [])) s → t ≡ emit_all row (binding_adds q pc w) s
+  unfolding is_binding is captured_register captured_upvalue only flatten not_below
+  binds_upvalue e f = rw (number_of_lem ∙ e, captured) (f ∙ ap (λ (ds : List Diagnostic). emit_all row ds s) (sym (append-nil _)))
+
+  -- where it captures nothing
+  adds_17 : elem r.opcode_num (MOVE ∷ GETUPVAL ∷ []) ≡ false → binding_adds q pc w ≡ diagnostic pc 17 (opcode_value w) ∷ []
+  unfolding is_binding is captured_register captured_upvalue only flatten not_below
+  adds_17 other = let o = or_false (eqb r.opcode_num MOVE) (eqb r.opcode_num GETUPVAL || false) other in rw (number_of_lem, o.0, o.1)
+
+  pub binds_nothing : elem r.opcode_num (MOVE ∷ GETUPVAL ∷ []) ≡ false → r.opcode_num < 38 → t ≡ emitted row pc 17 r.opcode_num s → t ≡ emit_all row (binding_adds q pc w) s
+  unfolding opcode_value is_unknown
+  binds_nothing other known f = rw (adds_17 other, number_of_lem, le-ltb 37 r.opcode_num (omega arith)) (f ∙ emits_word row pc 17 r.opcode_num s)
+
+  pub binds_unknown : 37 < r.opcode_num → t ≡ emitted row pc 17 4294967295 s → t ≡ emit_all row (binding_adds q pc w) s
+  unfolding opcode_value is_unknown
+  binds_unknown above f =
+      let other : elem r.opcode_num (MOVE ∷ GETUPVAL ∷ []) ≡ false = rw (ne_eqb r.opcode_num MOVE (λ e. omega arith), ne_eqb r.opcode_num GETUPVAL (λ e. omega arith)) in
+      rw (adds_17 other, number_of_lem, lt-ltb 37 r.opcode_num above) (f ∙ emits_bits row pc 17 0 s)
 
 binding_by : (p : Proto) (q : Prototype) (code records : List ℕ) → Describes p q code records → (pc w : ℕ) → pc < length code / 4 → w ≡ u32_at code (4 * pc) → binding_adds q pc w ≡ binding_diagnostics p pc
 unfolding binding_diagnostics

@@ -7,9 +7,10 @@ use Rattle.opcodes.specs.Bytes.{u32s, i32_record, u32_record, overwrite}
 use Rattle.opcodes.proofs.ByteLaws.{length_u32s, length_overwrite, overwrite_none}
 use Rattle.chunk.specs.Calls.{answer, refused, accepted, filled, roles_answer, roles_after}
 use Rattle.chunk.specs.Refusals.{Refused, or_else, refuse, refuse_if, too_short, roles_refusal, word_total}
-use Rattle.chunk.specs.Roles.{role_at, role_bytes, records_of, roles}
-use Rattle.chunk.specs.Table.{Row, Proto, row_bytes, row_at, rows, protos, protos_of, proto_of}
-use Rattle.roles.specs.Terms.{refused_of, answer_of as rolesAnswerOf, proto_in, role_in}
+use Rattle.chunk.specs.Roles.{role_at, role_bytes, records_of, roles, role_in}
+use Rattle.chunk.specs.Table.{Row, Proto, row_bytes, row_at, rows, protos, protos_of, proto_of, proto_in}
+use Rattle.chunk.proofs.RoleLookupLaws.{role_looked_up}
+use Rattle.roles.specs.Terms.{refused_of, answer_of as rolesAnswerOf}
 use Rattle.roles.specs.declared.refusals.Refusal.{Refusal}
 use Rattle.roles.specs.declared.refusals.Refusal.TheVariants as refusal
 use Rattle.chunk.proofs.RefusalLaws.{ImageKept, or_else_none, image_kept, roles_kept}
@@ -17,14 +18,13 @@ use Rattle.chunk.proofs.TotalLaws.{protos_drop}
 use Rattle.chunk.proofs.TableLaws.{drop_rows, length_rows}
 use Rattle.chunk.proofs.TotalLaws.{words_front, words_next}
 use Rattle.chunk.proofs.WrittenLaws.{accepted_none}
-use Rattle.roles.proofs.RoleLookupLaws.{role_looked_up}
 use Rattle.verdict.specs.Check.{Checked, checked, check_refusal, check_answer, diagnostics_after}
 use Rattle.verdict.specs.Image.{Image, diagnostics}
 use Rattle.verdict.specs.Statements.{Accepted, Guarantee}
-use Rattle.verdict.specs.Walk.{max_diagnostics, diagnostic_fields, diagnostic_bytes}
+use Rattle.verdict.specs.Walk.{max_diagnostics, most_diagnostics, diagnostic_fields, diagnostic_bytes}
 use Rattle.verdict.proofs.GuaranteeLaws.{check_guaranteed}
 use Rattle.verdict.proofs.LimitLaws.{at_most}
-use Rattle.validator.specs.Terms.{answer_of, checked_in, concluded, image_of}
+use Rattle.validator.specs.Terms.{answer_of, checked_of, concluded, image_of}
 use Rattle.validator.specs.Steps.{State, Filled, Walked, step_row, walk_to}
 use Rattle.validator.specs.declared.calls.Validation.{Validation}
 use Rattle.validator.proofs.WalkedLaws.{begun, image_walked, walked_concluded, walked_empty}
@@ -94,7 +94,7 @@ module _ (table words records : List ℕ) (f : Filled table words records) where
 -- ---- what the walk says of the call
 
 module _ (i : Image) (old : List ℕ) (s : State) (w : Walked i old s) where
-  pub judged : (v : Validation) → checked_in v ≡ concluded i.warnings i.errors s.0 → checked_in v ≡ checked i
+  pub judged : (v : Validation) → checked_of v ≡ concluded i.warnings i.errors s.0 → checked_of v ≡ checked i
   judged v e = e ∙ walked_concluded i old s w
 
   counted : s.0.count ≡ length (diagnostics i)
@@ -139,7 +139,7 @@ module _ (i : Image) (buffer : List ℕ) where
       }
 
   -- judged, and filled
-  pub accepted_long : (v : Validation) (new : List ℕ) → diagnostic_bytes * length (diagnostics i) ≤ length buffer → checked_in v ≡ checked i → new ≡ overwrite buffer 0 (i32_record (flat_map diagnostic_fields (diagnostics i)))
+  pub accepted_long : (v : Validation) (new : List ℕ) → diagnostic_bytes * length (diagnostics i) ≤ length buffer → checked_of v ≡ checked i → new ≡ overwrite buffer 0 (i32_record (flat_map diagnostic_fields (diagnostics i)))
       → Answers i buffer (Ok v) new
   unfolding answer_of answer filled
   accepted_long v new h e f =
@@ -186,7 +186,7 @@ module _ (i : Image) (records : List ℕ) (a : Result ℕ Refusal) (judgedRoles 
       )
 
   -- the largest number of diagnostics fits
-  pub most_fit : (n len : ℕ) → a ≡ Ok n → 10255 ≤ len / diagnostic_bytes → diagnostic_bytes * length (diagnostics i) ≤ len
+  pub most_fit : (n len : ℕ) → a ≡ Ok n → most_diagnostics ≤ len / diagnostic_bytes → diagnostic_bytes * length (diagnostics i) ≤ len
   unfolding Accepted roles_refusal
   most_fit n len e h = omega (arith, at_most i (or_else_none _ _ (not_refused n e)).0)
 

@@ -136,9 +136,9 @@ module _ (table counts pending : List ℕ) (row : ℕ) (ordered : Ordered table)
           ∙ sym (one_child table n row there (here ∙ sym own))
       go false true c x y z =
           let own : n ≡ d = eqb-true n d y in
-          let place : suc n ≡ d + 1 = omega arith in
+          let next : suc n ≡ d + 1 = omega arith in
           get_or-set_other (set pending (d + 1) 0) d (suc n) (same + 1) 0 (λ f. omega arith)
-          ∙ ap (λ (i : ℕ). get_or (set pending (d + 1) 0) i 0) place
+          ∙ ap (λ (i : ℕ). get_or (set pending (d + 1) 0) i 0) next
           ∙ get_or-set_same pending (d + 1) 0 0 deep_enough
           ∙ sym (none_left table n row there (omega (arith, here)))
       go false false c x y z =

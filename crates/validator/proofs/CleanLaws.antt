@@ -11,22 +11,21 @@ use Rattle.opcodes.specs.declared.RawInstruction51.{RawInstruction51}
 use Rattle.opcodes.proofs.AllLaws.{all_flatten}
 use Rattle.opcodes.proofs.FieldLaws.{operand_below}
 use Rattle.opcodes.proofs.TestLaws.{t_and, t_true, t_false, double_not, by_or}
-use Rattle.chunk.specs.Roles.{Role, Executable, executable_at, is_executable, role_at, word_at, binding_words}
+use Rattle.chunk.specs.Roles.{Role, Executable, executable_at, is_executable, role_at, word_at, binding_words, role_in}
 use Rattle.chunk.specs.Table.{Proto}
 use Rattle.chunk.proofs.RoleLaws.{executable}
-use Rattle.roles.specs.Terms.{role_in}
-use Rattle.verdict.specs.Operands.{is_jump, is_skip, is_loadbool_skip, skip_target, constant_bx, upvalue_b, flag_a, register_a, span_ends, register_in, constant_in, child_bx, is_unknown}
+use Rattle.opcodes.proofs.SplitLaws.{raw_of, split_again}
+use Rattle.verdict.specs.Operands.{is_jump, is_skip, is_loadbool_skip, skip_target, constant_bx, upvalue_b, flag_a, flag_limit, register_a, span_ends, register_in, constant_in, child_bx, is_unknown}
 use Rattle.verdict.specs.Rules.{Below, Lands, JumpKept, BindingKept, registers_of, constants_of}
 use Rattle.verdict.specs.Diagnostics.{diagnostics_at}
 use Rattle.verdict.proofs.RuleLaws.{known_none}
-use Rattle.validator.specs.Clean.{FlowKept, OperandsBelow, limits_of, names_nothing, place, shapes}
+use Rattle.validator.specs.Clean.{FlowKept, OperandsBelow, limits_of, names_nothing, slot, shapes}
 use Rattle.validator.specs.Terms.{Describes, Limits, Stands}
 use Rattle.validator.specs.declared.clean.Flow.{Flow}
 use Rattle.validator.specs.declared.clean.Flow.TheVariants.{Next, Target, Past}
 use Rattle.validator.specs.declared.clean.Shape.{Shape}
 use Rattle.validator.specs.declared.prototype.Prototype.{Prototype}
 use Rattle.validator.proofs.DescribedLaws.{looked_up, word_read}
-use Rattle.validator.proofs.FaultLaws.{raw_of, split_again}
 use Rattle.validator.proofs.OwnLaws.{executes}
 use Rattle.validator.proofs.BindingLaws.{bindings_end, only_closures}
 use Rattle.validator.proofs.OperandLaws.{skips, split_number, split_a, split_b, split_c, split_bx}
@@ -86,36 +85,36 @@ module _ (q : Prototype) (w : ℕ) where
   abbrev limit : ℕ → ℕ
   limit k = get_or (limits_of q) k 0
 
-  -- a value is below the limit that its opcode has a place of
-  at : (x place k : ℕ) → ltb x (limit place) ≡ true → place ≡ k → x < limit k
-  at x place k h e = subst (λ (i : ℕ). x < limit i) e (ltb-true _ _ h)
+  -- a value is below the limit that its opcode has a slot of
+  at : (x slot k : ℕ) → ltb x (limit slot) ≡ true → slot ≡ k → x < limit k
+  at x slot k h e = subst (λ (i : ℕ). x < limit i) e (ltb-true _ _ h)
 
-  module _ (h : ltb (field_a w) (limit (place (names (opcode w)).a)) ≡ true) where
-    flag : Below 2 (flag_a w)
+  module _ (h : ltb (field_a w) (limit (slot (names (opcode w)).a)) ≡ true) where
+    flag : Below flag_limit (flag_a w)
     unfolding flag_a is shapes limits_of
-    flag = below_if _ _ _ (λ t. at _ _ 8 h (has (EQ ∷ LT ∷ LE ∷ []) (λ n. place (names n).a) 8 (opcode w) tt t))
+    flag = below_if _ _ _ (λ t. at _ _ 8 h (has (EQ ∷ LT ∷ LE ∷ []) (λ n. slot (names n).a) 8 (opcode w) tt t))
 
     register : opcode w < 38 → Below q.stack (register_a w)
     unfolding register_a is shapes limits_of
     register known =
         below_if _ _ _ (λ t.
         let rest = t_false (elem (opcode w) without_a) (t_and (not (is_unknown w)) (not (elem (opcode w) without_a)) t).1 in
-        let two = up_to (λ n. elem n without_a || eqb (place (names n).a) 2) 0 38 (opcode w) tt (omega arith) known in
-        at _ _ 2 h (eqb→eq (place (names (opcode w)).a) 2 (subst (λ (b : Bool). T (b || eqb (place (names (opcode w)).a) 2)) rest two)))
+        let two = up_to (λ n. elem n without_a || eqb (slot (names n).a) 2) 0 38 (opcode w) tt (omega arith) known in
+        at _ _ 2 h (eqb→eq (slot (names (opcode w)).a) 2 (subst (λ (b : Bool). T (b || eqb (slot (names (opcode w)).a) 2)) rest two)))
 
-  module _ (h : ltb (field_bx w) (limit (place (names (opcode w)).bx)) ≡ true) where
+  module _ (h : ltb (field_bx w) (limit (slot (names (opcode w)).bx)) ≡ true) where
     constant : Below q.constants (constant_bx w)
     unfolding constant_bx is shapes limits_of
-    constant = below_if _ _ _ (λ t. at _ _ 5 h (has (LOADK ∷ GETGLOBAL ∷ SETGLOBAL ∷ []) (λ n. place (names n).bx) 5 (opcode w) tt t))
+    constant = below_if _ _ _ (λ t. at _ _ 5 h (has (LOADK ∷ GETGLOBAL ∷ SETGLOBAL ∷ []) (λ n. slot (names n).bx) 5 (opcode w) tt t))
 
     child : Below q.children (child_bx w)
     unfolding child_bx is shapes limits_of
-    child = below_if _ _ _ (λ t. at _ _ 9 h (has (CLOSURE ∷ []) (λ n. place (names n).bx) 9 (opcode w) tt t))
+    child = below_if _ _ _ (λ t. at _ _ 9 h (has (CLOSURE ∷ []) (λ n. slot (names n).bx) 9 (opcode w) tt t))
 
   -- B or C
-  module _ (f : Field) (place : ℕ) (h : ltb (operand f w % 256) (limit (place + operand f w / 256)) ≡ true) where
+  module _ (f : Field) (slot : ℕ) (h : ltb (operand f w % 256) (limit (slot + operand f w / 256)) ≡ true) where
     -- where values with the bit of a constant have the limit 0
-    plain : (k : ℕ) → place ≡ k → limit (k + 1) ≡ 0 → operand f w < limit k
+    plain : (k : ℕ) → slot ≡ k → limit (k + 1) ≡ 0 → operand f w < limit k
     plain k e z = go (leb 256 (operand f w)) refl
       where
         go : (b : Bool) → leb 256 (operand f w) ≡ b → operand f w < limit k
@@ -128,7 +127,7 @@ module _ (q : Prototype) (w : ℕ) where
             let same : operand f w % 256 ≡ operand f w = omega arith in
             subst (λ (n : ℕ). n < limit k) same (at _ _ k h (omega arith))
 
-    module _ (fixed : T (is w f.fixed) → place ≡ 2) (rk : T (is w f.rk) → place ≡ 4) where
+    module _ (fixed : T (is w f.fixed) → slot ≡ 2) (rk : T (is w f.rk) → slot ≡ 4) where
       field_register : Below q.stack (register_in f w)
       unfolding register_in is_constant limits_of
       field_register =
@@ -139,8 +138,8 @@ module _ (q : Prototype) (w : ℕ) where
           let both = t_and (is w f.rk) (not (leb 256 (operand f w))) t in
           let low = leb-false 256 (operand f w) (t_false (leb 256 (operand f w)) both.1) in
           let same : operand f w % 256 ≡ operand f w = omega arith in
-          let place-4 = rk both.0 in
-          subst (λ (n : ℕ). n < q.stack) same (at (operand f w % 256) (place + operand f w / 256) 4 h (omega arith))))
+          let slot-4 = rk both.0 in
+          subst (λ (n : ℕ). n < q.stack) same (at (operand f w % 256) (slot + operand f w / 256) 4 h (omega arith))))
 
       field_constant : Below q.constants (constant_in f w)
       unfolding constant_in is_constant constant_index limits_of
@@ -149,12 +148,12 @@ module _ (q : Prototype) (w : ℕ) where
           let both = t_and (is w f.rk) (leb 256 (operand f w)) t in
           let high = leb→le 256 (operand f w) both.1 in
           let same : operand f w % 256 ≡ operand f w - 256 = omega (arith, operand_below f w) in
-          let place-4 = rk both.0 in
-          rw (t_true (leb 256 (operand f w)) both.1) (subst (λ (n : ℕ). n < q.constants) same (at (operand f w % 256) (place + operand f w / 256) 5 h (omega (arith, operand_below f w)))))
+          let slot-4 = rk both.0 in
+          rw (t_true (leb 256 (operand f w)) both.1) (subst (λ (n : ℕ). n < q.constants) same (at (operand f w % 256) (slot + operand f w / 256) 5 h (omega (arith, operand_below f w)))))
 
-  upvalue : ltb (operand B w % 256) (limit (place (names (opcode w)).b + operand B w / 256)) ≡ true → Below q.upvalues (upvalue_b w)
+  upvalue : ltb (operand B w % 256) (limit (slot (names (opcode w)).b + operand B w / 256)) ≡ true → Below q.upvalues (upvalue_b w)
   unfolding upvalue_b is shapes limits_of
-  upvalue h = below_if _ _ _ (λ t. plain B _ h 6 (has (GETUPVAL ∷ SETUPVAL ∷ []) (λ n. place (names n).b) 6 (opcode w) tt t) refl)
+  upvalue h = below_if _ _ _ (λ t. plain B _ h 6 (has (GETUPVAL ∷ SETUPVAL ∷ []) (λ n. slot (names n).b) 6 (opcode w) tt t) refl)
 
   -- the spans that B and C end
   module _ (h : leb (field_a w + (names (opcode w)).b_span / 2 + (names (opcode w)).b_span % 2 * operand B w) (q.stack + 1) ≡ true)
@@ -185,18 +184,18 @@ module _ (q : Prototype) (w : ℕ) where
         all_nil))))))))
 
   -- all of them
-  pub operands : opcode w < 38 → ltb (field_a w) (limit (place (names (opcode w)).a)) ≡ true → ltb (field_bx w) (limit (place (names (opcode w)).bx)) ≡ true
-      → ltb (operand B w % 256) (limit (place (names (opcode w)).b + operand B w / 256)) ≡ true
-      → ltb (operand C w % 256) (limit (place (names (opcode w)).c + operand C w / 256)) ≡ true
+  pub operands : opcode w < 38 → ltb (field_a w) (limit (slot (names (opcode w)).a)) ≡ true → ltb (field_bx w) (limit (slot (names (opcode w)).bx)) ≡ true
+      → ltb (operand B w % 256) (limit (slot (names (opcode w)).b + operand B w / 256)) ≡ true
+      → ltb (operand C w % 256) (limit (slot (names (opcode w)).c + operand C w / 256)) ≡ true
       → leb (field_a w + (names (opcode w)).b_span / 2 + (names (opcode w)).b_span % 2 * operand B w) (q.stack + 1) ≡ true
       → leb (field_a w + (names (opcode w)).c_span / 2 + (names (opcode w)).c_span % 2 * operand C w) (q.stack + 1) ≡ true
       → OperandsBelow q w
   unfolding registers_of constants_of is shapes B C
   operands known a bx b c sb sc =
-      let fixed-b : T (elem (opcode w) B.fixed) → place (names (opcode w)).b ≡ 2 = has B.fixed (λ n. place (names n).b) 2 (opcode w) tt in
-      let rk-b : T (elem (opcode w) B.rk) → place (names (opcode w)).b ≡ 4 = has B.rk (λ n. place (names n).b) 4 (opcode w) tt in
-      let fixed-c : T (elem (opcode w) C.fixed) → place (names (opcode w)).c ≡ 2 = has C.fixed (λ n. place (names n).c) 2 (opcode w) tt in
-      let rk-c : T (elem (opcode w) C.rk) → place (names (opcode w)).c ≡ 4 = has C.rk (λ n. place (names n).c) 4 (opcode w) tt in
+      let fixed-b : T (elem (opcode w) B.fixed) → slot (names (opcode w)).b ≡ 2 = has B.fixed (λ n. slot (names n).b) 2 (opcode w) tt in
+      let rk-b : T (elem (opcode w) B.rk) → slot (names (opcode w)).b ≡ 4 = has B.rk (λ n. slot (names n).b) 4 (opcode w) tt in
+      let fixed-c : T (elem (opcode w) C.fixed) → slot (names (opcode w)).c ≡ 2 = has C.fixed (λ n. slot (names n).c) 2 (opcode w) tt in
+      let rk-c : T (elem (opcode w) C.rk) → slot (names (opcode w)).c ≡ 4 = has C.rk (λ n. slot (names n).c) 4 (opcode w) tt in
       record {
         constant = all_flatten (all_cons (constant bx) (all_cons (field_constant B _ b fixed-b rk-b) (all_cons (field_constant C _ c fixed-c rk-c) all_nil)));
         upvalue = upvalue b;
@@ -207,7 +206,7 @@ module _ (q : Prototype) (w : ℕ) where
 
 -- ---- as the code has them
 
--- the places are in the list
+-- the slots are in the list
 bounded : (f : ℕ → ℕ) (k n : ℕ) → T (every (λ m. ltb (f m) k) (up_from 0 38)) → n < 38 → f n < k
 bounded f k n t h = ltb→lt (f n) k (up_to (λ m. ltb (f m) k) 0 38 n t (omega arith) h)
 
@@ -217,35 +216,35 @@ module _ (q : Prototype) (limits : List ℕ) (s : Shape) (w : RawInstruction51)
   unfolding limits_of
   ten = ap length known
 
-  pub place_a : place s.a < length limits
+  pub slot_a : slot s.a < length limits
   unfolding shapes
-  place_a = rw (pre.2, ten) (bounded (λ m. place (names m).a) 10 w.opcode_num tt pre.1)
+  slot_a = rw (pre.2, ten) (bounded (λ m. slot (names m).a) 10 w.opcode_num tt pre.1)
 
-  pub place_bx : place s.bx < length limits
+  pub slot_bx : slot s.bx < length limits
   unfolding shapes
-  place_bx = rw (pre.2, ten) (bounded (λ m. place (names m).bx) 10 w.opcode_num tt pre.1)
+  slot_bx = rw (pre.2, ten) (bounded (λ m. slot (names m).bx) 10 w.opcode_num tt pre.1)
 
-  pub place_b : (place s.b + 1 < length limits) × (w.b < 512)
+  pub slot_b : (slot s.b + 1 < length limits) × (w.b < 512)
   unfolding shapes
-  place_b = (rw (pre.2, ten) (bounded (λ m. place (names m).b + 1) 10 w.opcode_num tt pre.1), subst⁻¹ (λ (n : ℕ). n < 512) (split_b w pre.0) (operand_below B w.raw))
+  slot_b = (rw (pre.2, ten) (bounded (λ m. slot (names m).b + 1) 10 w.opcode_num tt pre.1), subst⁻¹ (λ (n : ℕ). n < 512) (split_b w pre.0) (operand_below B w.raw))
 
-  pub place_c : (place s.c + 1 < length limits) × (w.c < 512)
+  pub slot_c : (slot s.c + 1 < length limits) × (w.c < 512)
   unfolding shapes
-  place_c = (rw (pre.2, ten) (bounded (λ m. place (names m).c + 1) 10 w.opcode_num tt pre.1), subst⁻¹ (λ (n : ℕ). n < 512) (split_c w pre.0) (operand_below C w.raw))
+  slot_c = (rw (pre.2, ten) (bounded (λ m. slot (names m).c + 1) 10 w.opcode_num tt pre.1), subst⁻¹ (λ (n : ℕ). n < 512) (split_c w pre.0) (operand_below C w.raw))
 
   of_opcode : s ≡ names (opcode w.raw)
   of_opcode = pre.2 ∙ ap names (split_number w pre.0)
 
-  pub operands_of : ltb w.a (get_or limits (place s.a) 0) ≡ true → ltb w.bx (get_or limits (place s.bx) 0) ≡ true
-      → ltb (w.b % 256) (get_or limits (place s.b + w.b / 256) 0) ≡ true → ltb (w.c % 256) (get_or limits (place s.c + w.c / 256) 0) ≡ true
+  pub operands_of : ltb w.a (get_or limits (slot s.a) 0) ≡ true → ltb w.bx (get_or limits (slot s.bx) 0) ≡ true
+      → ltb (w.b % 256) (get_or limits (slot s.b + w.b / 256) 0) ≡ true → ltb (w.c % 256) (get_or limits (slot s.c + w.c / 256) 0) ≡ true
       → leb (w.a + s.b_span / 2 + s.b_span % 2 * w.b) (q.stack + 1) ≡ true → leb (w.a + s.c_span / 2 + s.c_span % 2 * w.c) (q.stack + 1) ≡ true
       → OperandsBelow q w.raw
   operands_of a bx b c sb sc =
-      operands q w.raw (subst (λ (n : ℕ). n < 38) (split_number w pre.0) pre.1) (as_known _ _ (λ s. place s.a) (split_a w pre.0) a) (as_known _ _ (λ s. place s.bx) (split_bx w pre.0) bx)
-      (field_of _ _ (λ s. place s.b) (split_b w pre.0) b) (field_of _ _ (λ s. place s.c) (split_c w pre.0) c)
+      operands q w.raw (subst (λ (n : ℕ). n < 38) (split_number w pre.0) pre.1) (as_known _ _ (λ s. slot s.a) (split_a w pre.0) a) (as_known _ _ (λ s. slot s.bx) (split_bx w pre.0) bx)
+      (field_of _ _ (λ s. slot s.b) (split_b w pre.0) b) (field_of _ _ (λ s. slot s.c) (split_c w pre.0) c)
       (span_of _ _ (λ s. s.b_span) (split_b w pre.0) sb) (span_of _ _ (λ s. s.c_span) (split_c w pre.0) sc)
     where
-      -- a test with a place and a value
+      -- a test with a slot and a value
       as_known : (x y : ℕ) (f : Shape → ℕ) → x ≡ y → ltb x (get_or limits (f s) 0) ≡ true → ltb y (get_or (limits_of q) (f (names (opcode w.raw))) 0) ≡ true
       as_known x y f e h =
           ap (λ (n : ℕ). ltb n (get_or (limits_of q) (f (names (opcode w.raw))) 0)) (sym e)

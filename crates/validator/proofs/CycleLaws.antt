@@ -1,8 +1,7 @@
 -- The two functions that call each other: a row with the rows below it, and the rows deeper than another, in the code's terms. Assumes nothing.
 use Rattle.std.proofs.Common.{◌≡◌, ℕ, ◌+◌, ◌/◌, ◌<◌, ◌≤◌, true, false, List, length, drop, sym, ap, ◌∙◌, subst, ap₂, arith}
 use Rattle.opcodes.specs.Bytes.{u32s}
-use Rattle.chunk.specs.Table.{row_bytes, row_at}
-use Rattle.roles.specs.Terms.{proto_in}
+use Rattle.chunk.specs.Table.{row_bytes, row_at, proto_in}
 use Rattle.verdict.specs.Diagnostics.{proto_steps}
 use Rattle.validator.specs.Terms.{prototype_of}
 use Rattle.validator.specs.Steps.{State, Begins, tested_of, moved_to, own_steps, step_row, walk_to}

@@ -2,9 +2,8 @@
 use Rattle.std.proofs.Common.{◌≡◌, ℕ, ◌*◌, ◌/◌, ◌<◌, Bool, true, false, not, List, length, get_or, sym, refl, ap, ◌∙◌}
 use Rattle.opcodes.specs.Bytes.{u32_at}
 use Rattle.opcodes.proofs.ByteLaws.{get_d_u32s, length_u32s}
-use Rattle.chunk.specs.Roles.{Role, is_executable, role_at, word_at}
+use Rattle.chunk.specs.Roles.{Role, is_executable, role_at, word_at, role_in}
 use Rattle.chunk.specs.Table.{Proto}
-use Rattle.roles.specs.Terms.{role_in}
 use Rattle.validator.specs.Terms.{Describes}
 use Rattle.validator.specs.declared.prototype.Prototype.{Prototype}
 

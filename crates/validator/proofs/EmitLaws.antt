@@ -6,11 +6,11 @@ use Rattle.std.specs.Option.{MatchOption}
 use mathlib.Core.List.{flatten, foldl-append}
 use Rattle.opcodes.specs.Bytes.{i32_bits}
 use Rattle.opcodes.specs.Lists.{only}
-use Rattle.opcodes.proofs.TestLaws.{or-false}
+use Rattle.opcodes.proofs.TestLaws.{or_false}
 use Rattle.verdict.specs.Diagnostics.{Diagnostic, diagnostic, not_below, tested_step}
 use Rattle.validator.specs.Terms.{as_list}
 use Rattle.validator.specs.declared.walk.WalkState.{WalkState}
-use Rattle.validator.specs.Steps.{State, emitted, emitted_if, emit, emit_all, ended, tested_of, advance}
+use Rattle.validator.specs.Steps.{State, emitted, emitted_if, emit, emit_all, ended, tested_of, take_step}
 
 -- ---- one
 
@@ -87,7 +87,7 @@ module _ (row pc code limit : ℕ) (s : State) where
 
 -- ---- after a test
 
--- the test is that of `advance`
+-- the test is that of `take_step`
 pub tests : (w t : WalkState) (b : Bool) → t ≡ tested_of w → t.limit ≡ b → (w.limit || leb w.stop w.count) ≡ b
 unfolding tested_of
 tests w t b e l = sym (ap (λ (x : WalkState). x.limit) e) ∙ l
@@ -102,15 +102,15 @@ pub tested_going : (w t : WalkState) → t ≡ tested_of w → t.limit ≡ false
 unfolding tested_of
 tested_going w t e l =
     let q = tests w t false e l in
-    let o : w.limit ≡ false = (or-false w.limit (leb w.stop w.count) q).0 in
+    let o : w.limit ≡ false = (or_false w.limit (leb w.stop w.count) q).0 in
     e ∙ (λ i. record { row = w.row; first = w.first; stop = w.stop; count = w.count; error = w.error; limit = (q ∙ sym o) i })
 
 -- a tested step, where the test ends the walk and where it does not
 module _ (row : ℕ) (ds : List Diagnostic) (s : State) (t : WalkState) (e : t ≡ tested_of s.0) where
-  pub step_ends : t.limit ≡ true → ◌≡◌ {A = State} (t, s.1) (advance row s (tested_step ds))
-  unfolding advance tested_step
+  pub step_ends : t.limit ≡ true → ◌≡◌ {A = State} (t, s.1) (take_step row s (tested_step ds))
+  unfolding take_step tested_step
   step_ends l = rw (tests s.0 t true e l, tested_ended s.0 t e l)
 
-  pub step_adds : (u : State) → t.limit ≡ false → u ≡ emit_all row ds (t, s.1) → u ≡ advance row s (tested_step ds)
-  unfolding advance tested_step
+  pub step_adds : (u : State) → t.limit ≡ false → u ≡ emit_all row ds (t, s.1) → u ≡ take_step row s (tested_step ds)
+  unfolding take_step tested_step
   step_adds u l f = rw (tests s.0 t false e l) (f ∙ ap (λ (w : WalkState). emit_all row ds (w, s.1)) (tested_going s.0 t e l))

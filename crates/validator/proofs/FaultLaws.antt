@@ -1,97 +1,30 @@
--- The truncated owner of a prototype: which word owns another, and that none is truncated but the owner of the last word. Assumes nothing.
-use Rattle.std.proofs.Common.{◌≡◌, ℕ, zero, suc, ◌+◌, ◌-◌, ◌*◌, ◌/◌, ◌<◌, ◌≤◌, Bool, true, false, T, eqb, leb, List, [], ◌∷◌, map, length, get_or, drop, pos, sym, refl, ap, ◌∙◌, subst, append-nil, add-zero, zero-add, arith, length-append, ltb-true, le-ltb, lt-ltb, eq-eqb, ne_eqb, eqb-true, le-leb, leb-false, leb-true}
+-- The truncated owner of a prototype: none is truncated but the owner of the last word; and how many words it claims. Assumes nothing.
+use Rattle.std.proofs.Common.{◌≡◌, ℕ, suc, ◌+◌, ◌-◌, ◌*◌, ◌/◌, ◌<◌, ◌≤◌, Bool, true, false, T, leb, List, [], ◌∷◌, length, get_or, drop, pos, sym, refl, ap, ◌∙◌, subst, append-nil, add-zero, zero-add, add-one, arith, length-append, ltb-true, le-ltb, lt-ltb, eq-eqb, ne_eqb, le-leb, leb-false, leb-true}
 use mathlib.Core.Path.{subst⁻¹}
 use mathlib.Core.Bool.{and-false}
 use mathlib.Core.List.{flat_map}
-use borrow.Author.Tests.{lt-leb, eqb-false}
+use mathlib.Core.Option as option
+use borrow.Author.Tests.{lt-leb}
 use Rattle.std.specs.Prelude.{Option, Some, None}
 use Rattle.opcodes.specs.Bytes.{u32_at, u32s}
-use Rattle.opcodes.specs.Lists.{All, all_nil, all_cons, up_from, tabulate, only}
+use Rattle.opcodes.specs.Lists.{up_from, tabulate, only}
 use Rattle.opcodes.specs.Words.{is, decoded, operand, field_bx, C, CLOSURE, SETLIST}
 use Rattle.opcodes.specs.declared.RawInstruction51.{RawInstruction51}
-use Rattle.opcodes.proofs.AllLaws.{all_append, all_at, all_up_from, all_up_to, flat_map_none}
+use Rattle.opcodes.proofs.AllLaws.{all_up_from, all_up_to, flat_map_none}
 use Rattle.opcodes.proofs.ListLaws.{length_tabulate, up_from_append, flat_map_append}
-use Rattle.chunk.specs.Table.{Proto, row_at, rows, child_at}
-use Rattle.chunk.specs.Roles.{Role, Instruction, ClosureBinding, SetlistExtra, is_executable, executable_at, Executable, binding_count, has_extra, claims, role_at, word_at, owned, existing, companions, is_truncated}
-use Rattle.roles.specs.Terms.{child_from, child_of_row, proto_in, role_in}
+use Rattle.chunk.specs.Table.{Row, Proto, field_at, row_at, rows, child_at, child_of_row, proto_in}
+use Rattle.chunk.specs.Roles.{ClosureBinding, SetlistExtra, executable_at, Executable, binding_count, has_extra, claims, role_at, word_at, owned, existing, companions, is_truncated, role_in, last_owner}
+use Rattle.roles.specs.Terms.{child_from}
 use Rattle.roles.specs.declared.table.Child.{Child}
-use Rattle.chunk.proofs.RoleLaws.{executable_role, exists, role, executable, first_executable, next_executable, owned_count, owned_role}
-use Rattle.roles.proofs.OwnerLaws.{has_opcode, has_other}
-use Rattle.roles.proofs.SearchLaws.{FoundChild, found_child, missing, no_upvalues, anew}
+use Rattle.chunk.proofs.RoleLaws.{exists, owned_count}
+use Rattle.chunk.proofs.ChildLaws.{ChildIn, child_in, no_upvalues}
+use Rattle.chunk.proofs.OwnerLaws.{Owns, owner_is, owner_of}
+use Rattle.opcodes.proofs.SplitLaws.{raw_of, split_again, has_opcode, has_other}
 use Rattle.verdict.specs.Diagnostics.{diagnostic, truncation_at}
-use Rattle.validator.specs.Terms.{Describes, last_owner, fault_diagnostics, prototype_of}
+use Rattle.validator.specs.Terms.{Describes, fault_diagnostics, prototype_of}
 use Rattle.validator.proofs.DescribedLaws.{word_read, words_of_lem}
 use Rattle.validator.specs.declared.fault.Lua51RoleFault.TheVariants as fault
 use Rattle.validator.specs.declared.prototype.Prototype.{Prototype}
-
--- ---- the owner of a word
-
--- the word at pc is the executable one at o, or one of those that it owns
-pub record Owns (p : Proto) (o pc : ℕ) : Type 0 where
-  pub executes : Executable p o
-  pub after : o ≤ pc
-  pub within : pc ≤ o + owned p o
-
--- there is such an executable word
-record Owner (p : Proto) (pc : ℕ) : Type 0 where
-  place : ℕ
-  owns : Owns p place pc
-
-itself : (p : Proto) (pc : ℕ) → Executable p pc → Owner p pc
-itself p pc x = record { place = pc; owns = record { executes = x; after = omega arith; within = omega arith } }
-
-next_owner : (p : Proto) (pc : ℕ) → suc pc < length p.code → Owner p pc → Owner p (suc pc)
-next_owner p pc h v = go (leb (suc pc) (v.place + owned p v.place)) refl
-  where
-    go : (b : Bool) → leb (suc pc) (v.place + owned p v.place) ≡ b → Owner p (suc pc)
-    go true e = record { place = v.place; owns = record { executes = v.owns.executes; after = omega (arith, v.owns.after); within = leb-true (suc pc) (v.place + owned p v.place) e } }
-    go false e =
-        let here : v.place + 1 + owned p v.place ≡ suc pc = omega (arith, v.owns.within, leb-false (suc pc) (v.place + owned p v.place) e) in
-        itself p (suc pc) (executable p (suc pc) h (subst (λ (n : ℕ). T (is_executable (role_at p n))) here (next_executable p v.place v.owns.executes)))
-
-has_owner : (p : Proto) (pc : ℕ) → pc < length p.code → Owner p pc
-has_owner p zero h = itself p 0 (executable p 0 h (first_executable p))
-has_owner p (suc pc) h = next_owner p pc h (has_owner p pc (omega arith))
-
--- the roles that a word at o claims say so
-abbrev Of : ℕ → ℕ → Role → Type 0
-Of o pc r = last_owner pc r ≡ o
-
-bindings_of_lem : (o pc i n : ℕ) → All (Of o pc) (map (ClosureBinding o) (up_from i n))
-unfolding last_owner
-bindings_of_lem o pc i zero = all_nil
-bindings_of_lem o pc i (suc n) = all_cons refl (bindings_of_lem o pc (suc i) n)
-
-extra_of : (b : Bool) (o pc : ℕ) → All (Of o pc) (only b (SetlistExtra o))
-unfolding only last_owner
-extra_of true o pc = all_cons refl all_nil
-extra_of false o pc = all_nil
-
-claims_of : (p : Proto) (o pc w : ℕ) → All (Of o pc) (claims p o w)
-unfolding claims
-claims_of p o pc w = all_append (bindings_of_lem o pc 0 (binding_count p w)) (extra_of (has_extra w) o pc)
-
--- so that the owner is the one that the word's role names
-pub owner_is : (p : Proto) (o pc : ℕ) → pc < length p.code → Owns p o pc → last_owner pc (role_at p pc) ≡ o
-unfolding last_owner companions existing
-owner_is p o pc h v = go (eqb o pc) refl
-  where
-    go : (b : Bool) → eqb o pc ≡ b → last_owner pc (role_at p pc) ≡ o
-    go true e =
-        let same : o ≡ pc = eqb-true o pc e in
-        ap (last_owner pc) (ap (role_at p) (sym same) ∙ executable_role (role_at p o) (role p o v.executes)) ∙ sym same
-    go false e =
-        let other : o ≡ pc → ⊥ = eqb-false o pc e in
-        let j : ℕ = pc - (o + 1) in
-        let whole : o + 1 + j ≡ pc = omega (arith, v.after) in
-        let mine : j < owned p o = omega (arith, v.within) in
-        ap (last_owner pc) (ap (role_at p) (sym whole) ∙ owned_role p o j v.executes (omega arith))
-        ∙ all_at {P = Of o pc} j Instruction (omega (arith, owned_count p o v.executes)) (claims_of p o pc (word_at p o))
-
-pub owner_of : (p : Proto) (pc : ℕ) → pc < length p.code → Owns p (last_owner pc (role_at p pc)) pc
-owner_of p pc h =
-    let v = has_owner p pc h in
-    subst (λ (o : ℕ). Owns p o pc) (sym (owner_is p v.place pc h v.owns)) v.owns
 
 -- ---- truncated owners
 
@@ -176,14 +109,6 @@ module _ (p : Proto) (n : ℕ) (words : length p.code ≡ n) (some : 0 < n) wher
 
 -- ---- how many words a word claims, by its fields
 
--- a split word has the word's bits
-pub raw_of : (w : ℕ) (r : RawInstruction51) → r ≡ decoded w → r.raw ≡ w
-unfolding decoded
-raw_of w r split = ap (λ (x : RawInstruction51). x.raw) split
-
-pub split_again : (w : ℕ) (r : RawInstruction51) → r ≡ decoded w → r ≡ decoded r.raw
-split_again w r split = split ∙ ap decoded (sym (raw_of w r split))
-
 pub claims_count : (p : Proto) (pc w : ℕ) → length (claims p pc w) ≡ binding_count p w + length (only (has_extra w) (SetlistExtra pc))
 unfolding claims
 claims_count p pc w =
@@ -221,14 +146,24 @@ module _ (table : List ℕ) (q : Prototype) (same : q ≡ prototype_of table q.r
   -- the search for its child k, and the child's upvalues
   module _ (k : ℕ) (c : Option Child) (search : c ≡ child_from table (q.row + 1) 0 (child_at q.depth (drop (q.row + 1) (rows table)) k)) where
     child_is : c ≡ child_from table (suc q.row) 0 (child_of_row table q.row k)
-    unfolding prototype_of row_at
-    child_is = anew table q.row k q.depth c (ap (λ (x : Prototype). x.depth) same) search
+    unfolding prototype_of row_at child_of_row
+    child_is = let depth : q.depth ≡ field_at table q.row 0 = ap (λ (x : Prototype). x.depth) same in search ∙ rw (depth, add-one)
 
-    pub child_found : (x : Child) → c ≡ Some x → FoundChild table q.row k x.row x.first
-    child_found x e = found_child table q.row k x.row x.first (sym e ∙ child_is)
+    pub child_found : (x : Child) → c ≡ Some x → ChildIn table q.row k x.row
+    unfolding child_from
+    child_found x e = go (child_of_row table q.row k) refl (sym e ∙ child_is)
+      where
+        go : (o : option.Option Row) → child_of_row table q.row k ≡ o → Some x ≡ child_from table (suc q.row) 0 o → ChildIn table q.row k x.row
+        go option.none f g = let z : ◌≡◌ {A = ℕ} 0 1 = cc in absurd (omega arith)
+        go (option.some r) f g = child_in table q.row k x.row r f cc
 
     pub child_missed : c ≡ None → 0 ≡ get_or (proto_in table q.row []).children k 0
-    child_missed e = sym (no_upvalues table q.row k (missing table q.row k (sym e ∙ child_is)))
+    unfolding child_from
+    child_missed e = go (child_of_row table q.row k) refl (sym e ∙ child_is)
+      where
+        go : (o : option.Option Row) → child_of_row table q.row k ≡ o → None ≡ child_from table (suc q.row) 0 o → 0 ≡ get_or (proto_in table q.row []).children k 0
+        go option.none f g = sym (no_upvalues table q.row k f)
+        go (option.some r) f g = let z : ◌≡◌ {A = ℕ} 0 1 = cc in absurd (omega arith)
 
   -- its words, and the last one's owner
   module _ (code records : List ℕ) (d : Describes (proto_in table q.row (u32s code)) q code records) (some : length code / 4 ≡ 0 → ⊥) where

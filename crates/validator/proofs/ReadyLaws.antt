@@ -6,16 +6,15 @@ use lib.ListN.{length-map}
 use Rattle.opcodes.specs.Bytes.{u32s}
 use Rattle.opcodes.proofs.ByteLaws.{length_u32s}
 use Rattle.chunk.specs.Refusals.{max_rows, max_word_bytes, word_total}
-use Rattle.chunk.specs.Roles.{role_at, role_bytes}
-use Rattle.chunk.specs.Table.{Row, Proto, row_bytes, row_at, rows, children, proto_of}
-use Rattle.roles.specs.Terms.{proto_in, role_in}
+use Rattle.chunk.specs.Roles.{role_at, role_bytes, role_in}
+use Rattle.chunk.specs.Table.{Row, Proto, row_bytes, row_at, rows, children, proto_of, proto_in}
+use Rattle.chunk.proofs.RowPartLaws.{part_length, part_proto}
 use Rattle.chunk.proofs.RefusalLaws.{ImageKept, image_kept}
 use Rattle.chunk.proofs.TableLaws.{length_rows}
 use Rattle.chunk.proofs.TotalLaws.{words_front, words_next}
-use Rattle.roles.proofs.RoleFillLaws.{part_length, part_proto}
 use Rattle.verdict.specs.Diagnostics.{proto_steps}
 use Rattle.validator.specs.Terms.{Describes, Ordered, prototype_of}
-use Rattle.validator.specs.Steps.{State, Begins, Filled, advance, own_steps}
+use Rattle.validator.specs.Steps.{State, Begins, Filled, take_step, own_steps}
 use Rattle.validator.specs.declared.prototype.Prototype.{Prototype}
 use Rattle.validator.specs.declared.walk.WalkState.{WalkState}
 
@@ -99,8 +98,8 @@ module _ (table words roles : List ℕ) (w : WalkState) (r : Ready table words r
   pub same_prototype : q ≡ prototype_of table q.row
   same_prototype = e ∙ ap (prototype_of table) (sym row_of)
 
-  pub own_row : (out : List ℕ) (z : State) → z ≡ foldl (advance q.row) (w, out) (proto_steps (proto_in table q.row (u32s word_part))) → z ≡ own_steps table words (w, out)
+  pub own_row : (out : List ℕ) (z : State) → z ≡ foldl (take_step q.row) (w, out) (proto_steps (proto_in table q.row (u32s word_part))) → z ≡ own_steps table words (w, out)
   unfolding own_steps
   own_row out z f =
-      f ∙ ap (λ (i : ℕ). foldl (advance i) (w, out) (proto_steps (proto_in table i (u32s word_part)))) row_of
-      ∙ ap (λ (p : Proto). foldl (advance w.row) (w, out) (proto_steps p)) own_proto
+      f ∙ ap (λ (i : ℕ). foldl (take_step i) (w, out) (proto_steps (proto_in table i (u32s word_part)))) row_of
+      ∙ ap (λ (p : Proto). foldl (take_step w.row) (w, out) (proto_steps p)) own_proto

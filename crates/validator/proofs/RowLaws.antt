@@ -5,15 +5,14 @@ use mathlib.Core.List.{foldl}
 use lib.Dec.{nleb→lt}
 use borrow.Author.Tests.{lt-leb}
 use Rattle.opcodes.specs.Bytes.{u32s}
-use Rattle.chunk.specs.Table.{row_bytes, row_at, rows}
+use Rattle.chunk.specs.Table.{row_bytes, row_at, rows, proto_in}
 use Rattle.chunk.specs.Refusals.{word_total}
-use Rattle.roles.specs.Terms.{proto_in}
 use Rattle.verdict.specs.Diagnostics.{Diagnostic, Step, tested_step, proto_steps}
-use Rattle.opcodes.proofs.TestLaws.{true≢false, or-false, by_cond}
+use Rattle.opcodes.proofs.TestLaws.{true≢false, or_false, by_cond}
 use Rattle.chunk.proofs.TotalLaws.{words_next}
 use Rattle.verdict.proofs.TreeLaws.{Begins as TestFirst, begins, proto_begins}
 use Rattle.validator.specs.declared.walk.WalkState.{WalkState}
-use Rattle.validator.specs.Steps.{State, Begins, emitted, emit, emit_all, ended, tested_of, advance, moved_to, own_steps, onward, step_row, walk_for, walk_to, goes_on}
+use Rattle.validator.specs.Steps.{State, Begins, emitted, emit, emit_all, ended, tested_of, take_step, moved_to, own_steps, onward, step_row, walk_for, walk_to, goes_on}
 
 -- a test passes or fails
 either : {P : Type 0} (b : Bool) → (b ≡ true → P) → (b ≡ false → P) → P
@@ -51,34 +50,34 @@ module _ (row : ℕ) where
   unfolding emit_all
   emit_all_keeps ds s = kept_fold (emit row) emit_keeps s ds
 
-  pub advance_keeps : (s : State) (step : Step) → Kept s (advance row s step)
-  unfolding advance
-  advance_keeps s step =
+  pub take_step_keeps : (s : State) (step : Step) → Kept s (take_step row s step)
+  unfolding take_step
+  take_step_keeps s step =
       by_cond (Kept s) (s.0.limit || step.tested && leb s.0.stop s.0.count) (ended s.0, s.1) (emit_all row step.adds s)
       (λ t. record { row = refl; first = refl })
       (λ t. emit_all_keeps step.adds s)
 
-  steps_keep : (s : State) (steps : List Step) → Kept s (foldl (advance row) s steps)
-  steps_keep s steps = kept_fold (advance row) advance_keeps s steps
+  steps_keep : (s : State) (steps : List Step) → Kept s (foldl (take_step row) s steps)
+  steps_keep s steps = kept_fold (take_step row) take_step_keeps s steps
 
-  pub steps_row : (s : State) (steps : List Step) → (foldl (advance row) s steps).0.row ≡ s.0.row
+  pub steps_row : (s : State) (steps : List Step) → (foldl (take_step row) s steps).0.row ≡ s.0.row
   steps_row s steps = (steps_keep s steps).row
 
   -- ---- the limit
 
   -- once ended, a walk stays as it is
-  pub advance_ended : (s : State) (step : Step) → s.0.limit ≡ true → advance row s step ≡ s
-  unfolding advance
-  advance_ended s step e = rw e
+  pub take_step_ended : (s : State) (step : Step) → s.0.limit ≡ true → take_step row s step ≡ s
+  unfolding take_step
+  take_step_ended s step e = rw e
 
-  pub steps_ended : (s : State) (steps : List Step) → s.0.limit ≡ true → foldl (advance row) s steps ≡ s
+  pub steps_ended : (s : State) (steps : List Step) → s.0.limit ≡ true → foldl (take_step row) s steps ≡ s
   steps_ended s [] e = refl
-  steps_ended s (step ∷ steps) e = ap (λ (u : State). foldl (advance row) u steps) (advance_ended s step e) ∙ steps_ended s steps e
+  steps_ended s (step ∷ steps) e = ap (λ (u : State). foldl (take_step row) u steps) (take_step_ended s step e) ∙ steps_ended s steps e
 
   -- a test alone
-  pub tested_step_lem : (s : State) → advance row s (tested_step []) ≡ (tested_of s.0, s.1)
-  unfolding advance tested_step tested_of emit_all
-  tested_step_lem s = go (s.0.limit || leb s.0.stop s.0.count) (λ e. (or-false s.0.limit _ e).0)
+  pub tested_step_lem : (s : State) → take_step row s (tested_step []) ≡ (tested_of s.0, s.1)
+  unfolding take_step tested_step tested_of emit_all
+  tested_step_lem s = go (s.0.limit || leb s.0.stop s.0.count) (λ e. (or_false s.0.limit _ e).0)
     where
       limited : Bool → State
       limited b = (record { row = s.0.row; first = s.0.first; stop = s.0.stop; count = s.0.count; error = s.0.error; limit = b }, s.1)
@@ -88,12 +87,12 @@ module _ (row : ℕ) where
       go false f = ap limited (f refl)
 
   -- made twice in a row, as before a child and at the start of its row, it is one test
-  test_twice : (s : State) → advance row (tested_of s.0, s.1) (tested_step []) ≡ advance row s (tested_step [])
+  test_twice : (s : State) → take_step row (tested_of s.0, s.1) (tested_step []) ≡ take_step row s (tested_step [])
   unfolding tested_of
   test_twice s = tested_step_lem (tested_of s.0, s.1) ∙ rw (or_twice s.0.limit (leb s.0.stop s.0.count)) (sym (tested_step_lem s))
 
-  steps_tested : (s : State) {steps : List Step} → TestFirst steps → foldl (advance row) (tested_of s.0, s.1) steps ≡ foldl (advance row) s steps
-  steps_tested s (begins rest) = ap (λ (u : State). foldl (advance row) u rest) (test_twice s)
+  steps_tested : (s : State) {steps : List Step} → TestFirst steps → foldl (take_step row) (tested_of s.0, s.1) steps ≡ foldl (take_step row) s steps
+  steps_tested s (begins rest) = ap (λ (u : State). foldl (take_step row) u rest) (test_twice s)
 
 -- ---- after a row's own steps
 

@@ -6,17 +6,16 @@ use mathlib.Core.Option.{none}
 use borrow.Author.Tests.{lt-leb}
 use Rattle.opcodes.specs.Bytes.{u32s, u32_record, i32_bits, i32_record, overwrite}
 use Rattle.opcodes.specs.Lists.{All, all_nil, all_cons, any}
-use Rattle.chunk.specs.Table.{Row, row_bytes, row_at, rows, protos_of, protos}
+use Rattle.chunk.specs.Table.{Row, row_bytes, row_at, rows, protos_of, protos, proto_in}
 use Rattle.chunk.specs.Refusals.{word_total, bad_depth}
-use Rattle.roles.specs.Terms.{proto_in}
 use Rattle.verdict.specs.Diagnostics.{Diagnostic, is_error, Step, proto_steps}
-use Rattle.verdict.specs.Walk.{RowDiagnostic, in_row, max_diagnostics, Walk, start, count_n, advance as advanceWalk, walk_row, walk_from, walk, limit_reached, has_errors, diagnostic_fields, diagnostic_bytes, error_in}
+use Rattle.verdict.specs.Walk.{RowDiagnostic, in_row, max_diagnostics, Walk, start, count_n, advance, walk_row, walk_from, walk, limit_reached, has_errors, diagnostic_fields, diagnostic_bytes, error_in}
 use Rattle.verdict.specs.Image.{Image, image_protos, image_walk, diagnostics, verdict}
 use Rattle.verdict.specs.Check.{checked}
 use Rattle.verdict.specs.Statements.{Accepted}
-use Rattle.validator.specs.Steps.{State, emitted, emit, emit_all, ended, advance, moved_to, own_steps, onward, step_row, walk_for, walk_to, written, Walked}
+use Rattle.validator.specs.Steps.{State, emitted, emit, emit_all, ended, take_step, moved_to, own_steps, onward, step_row, walk_for, walk_to, written, Walked}
 use Rattle.validator.specs.Terms.{concluded}
-use Rattle.opcodes.proofs.TestLaws.{or-false, by_cond}
+use Rattle.opcodes.proofs.TestLaws.{or_false, by_cond}
 use Rattle.opcodes.proofs.AllLaws.{all_head, all_tail}
 use Rattle.chunk.proofs.TableLaws.{length_rows, drop_rows}
 use Rattle.chunk.proofs.TotalLaws.{words_next}
@@ -97,13 +96,13 @@ stop_test incoming n = go (leb max_diagnostics (incoming + n)) refl
 
 module _ (incoming row first : ℕ) (old : List ℕ) where
   -- the step either ends the walk in both or adds the same to both
-  pub advance_matches : (v : Walk) (s : State) (step : Step) → Matches incoming row first old v s → length (advanceWalk incoming row v step).found < 2 ^ 32
-      → Matches incoming row first old (advanceWalk incoming row v step) (advance row s step)
-  unfolding advanceWalk advance
-  advance_matches v s step m few =
+  pub take_step_matches : (v : Walk) (s : State) (step : Step) → Matches incoming row first old v s → length (advance incoming row v step).found < 2 ^ 32
+      → Matches incoming row first old (advance incoming row v step) (take_step row s step)
+  unfolding advance take_step
+  take_step_matches v s step m few =
       let same : (s.0.limit || step.tested && leb s.0.stop s.0.count) ≡ (v.ended || step.tested && leb max_diagnostics (count_n incoming v)) =
       ap₂ (λ (a b : Bool). a || step.tested && b) m.limit (ap₂ leb m.stop m.count ∙ stop_test incoming (length v.found)) in
-      subst⁻¹ (λ (b : Bool). Matches incoming row first old (advanceWalk incoming row v step) (cond b (ended s.0, s.1) (emit_all row step.adds s))) same
+      subst⁻¹ (λ (b : Bool). Matches incoming row first old (advance incoming row v step) (cond b (ended s.0, s.1) (emit_all row step.adds s))) same
       (go (v.ended || step.tested && leb max_diagnostics (count_n incoming v)) refl few)
     where
       more : Bool → Walk
@@ -115,20 +114,20 @@ module _ (incoming row first : ℕ) (old : List ℕ) where
       go true e few =
           record { row_is = m.row_is; first_is = m.first_is; stop = m.stop; count = m.count; error = m.error; limit = refl; buffer = m.buffer }
       go false e few =
-          subst (λ (b : Bool). Matches incoming row first old (more b) (emit_all row step.adds s)) (or-false v.ended _ e).0
+          subst (λ (b : Bool). Matches incoming row first old (more b) (emit_all row step.adds s)) (or_false v.ended _ e).0
           (emit_all_matches incoming row first old step.adds v s m few)
 
 -- ---- what was found stays
 
-step_grows : (incoming row : ℕ) (v : Walk) (step : Step) → length v.found ≤ length (advanceWalk incoming row v step).found
-unfolding advanceWalk
+step_grows : (incoming row : ℕ) (v : Walk) (step : Step) → length v.found ≤ length (advance incoming row v step).found
+unfolding advance
 step_grows incoming row v step =
     by_cond (λ (u : Walk). length v.found ≤ length u.found) (v.ended || step.tested && leb max_diagnostics (count_n incoming v)) _ _ (λ _. omega arith)
     (λ _. omega (arith, length-append v.found (map (in_row row) step.adds)))
 
-steps_grow : (incoming row : ℕ) (v : Walk) (steps : List Step) → length v.found ≤ length (foldl (advanceWalk incoming row) v steps).found
+steps_grow : (incoming row : ℕ) (v : Walk) (steps : List Step) → length v.found ≤ length (foldl (advance incoming row) v steps).found
 steps_grow incoming row v [] = omega arith
-steps_grow incoming row v (step ∷ steps) = omega (arith, step_grows incoming row v step, steps_grow incoming row (advanceWalk incoming row v step) steps)
+steps_grow incoming row v (step ∷ steps) = omega (arith, step_grows incoming row v step, steps_grow incoming row (advance incoming row v step) steps)
 
 rows_grow : (incoming row : ℕ) (v : Walk) (all : List (List Step)) → length v.found ≤ length (walk_from incoming row v all).found
 unfolding walk_from walk_row
@@ -137,13 +136,13 @@ rows_grow incoming row v (steps ∷ all) = omega (arith, steps_grow incoming row
 
 -- the steps of a row
 pub steps_match : (incoming row first : ℕ) (old : List ℕ) (steps : List Step) (v : Walk) (s : State) → Matches incoming row first old v s → length (walk_row incoming row v steps).found < 2 ^ 32
-    → Matches incoming row first old (walk_row incoming row v steps) (foldl (advance row) s steps)
+    → Matches incoming row first old (walk_row incoming row v steps) (foldl (take_step row) s steps)
 unfolding walk_row
 steps_match incoming row first old [] v s m few = m
 steps_match incoming row first old (step ∷ steps) v s m few =
-    let next = advanceWalk incoming row v step in
-    steps_match incoming row first old steps next (advance row s step)
-    (advance_matches incoming row first old v s step m (omega (arith, steps_grow incoming row next steps))) few
+    let next = advance incoming row v step in
+    steps_match incoming row first old steps next (take_step row s step)
+    (take_step_matches incoming row first old v s step m (omega (arith, steps_grow incoming row next steps))) few
 
 -- ---- once ended, nothing changes
 
@@ -155,7 +154,7 @@ rows_ended : (incoming row : ℕ) (v : Walk) (all : List (List Step)) → v.ende
 unfolding walk_from walk_row
 rows_ended incoming row v [] e = refl
 rows_ended incoming row v (steps ∷ all) e =
-    ap (λ (u : Walk). walk_from incoming (suc row) u all) (foldl_stays (advanceWalk incoming row) v (λ step. advance_ended incoming row v step e) steps)
+    ap (λ (u : Walk). walk_from incoming (suc row) u all) (foldl_stays (advance incoming row) v (λ step. advance_ended incoming row v step e) steps)
     ∙ rows_ended incoming (suc row) v all e
 
 -- ---- rows
@@ -228,8 +227,8 @@ module _ (i : Image) (old : List ℕ) where
         let v' = walk_row incoming k v (own k) in
         let few : length v'.found < 2 ^ 32 =
         omega (arith, rows_grow incoming (suc k) v' (later (suc k)), ap (λ (u : Walk). length u.found) (rest_next k v s h a), at_most i accepted) in
-        let same : own_steps i.table i.words s ≡ foldl (advance k) s (own k) =
-        ap₂ (λ (r f : ℕ). foldl (advance r) s (proto_steps (proto_in i.table r (drop f (u32s i.words))))) m.row_is m.first_is in
+        let same : own_steps i.table i.words s ≡ foldl (take_step k) s (own k) =
+        ap₂ (λ (r f : ℕ). foldl (take_step r) s (proto_steps (proto_in i.table r (drop f (u32s i.words))))) m.row_is m.first_is in
         subst⁻¹ (Matches incoming k (first_of k) old v') same (steps_match incoming k (first_of k) old (own k) v s m few)
 
     -- and on to the next row, unless they ended the walk

@@ -10,11 +10,10 @@ use Rattle.opcodes.specs.declared.Opcode51.{Opcode51}
 use Rattle.opcodes.specs.declared.OpMode51.{OpMode51}
 use Rattle.opcodes.specs.declared.OpMode51.TheVariants.{IABC, IABx, IAsBx}
 use Rattle.opcodes.specs.declared.RawInstruction51.{RawInstruction51}
-use Rattle.chunk.specs.Roles.{Role, is_executable, role_at}
+use Rattle.chunk.specs.Roles.{Role, is_executable, role_at, role_in}
 use Rattle.chunk.specs.Table.{Proto}
-use Rattle.roles.specs.Terms.{role_in}
 use Rattle.verdict.specs.Diagnostics.{Diagnostic, diagnostic, not_below, target_diagnostics, jump_diagnostics, skip_diagnostics, operand_diagnostics}
-use Rattle.verdict.specs.Operands.{is_jump, target, is_skip, skip_target, constant_bx, upvalue_b, flag_a, register_a, span_ends, register_in, constant_in, child_bx}
+use Rattle.verdict.specs.Operands.{is_jump, target, is_skip, skip_target, constant_bx, upvalue_b, flag_a, flag_limit, register_a, span_ends, register_in, constant_in, child_bx}
 use Rattle.validator.specs.Terms.{Decodes, Limits, Stands, as_list}
 use Rattle.validator.specs.Steps.{State, emitted, emitted_if, emit_all}
 use Rattle.validator.specs.declared.prototype.Prototype.{Prototype}
@@ -55,7 +54,7 @@ pub emits_operands : (row : ℕ) (p : Proto) (q : Prototype) (pc w : ℕ) → Li
     ≡ emit_all row (flatten (
     not_below pc 7 q.constants (constant_bx w)
     ∷ not_below pc 8 q.upvalues (upvalue_b w)
-    ∷ not_below pc 9 2 (flag_a w)
+    ∷ not_below pc 9 flag_limit (flag_a w)
     ∷ not_below pc 10 q.stack (register_a w)
     ∷ not_below pc 11 q.stack (span_ends w)
     ∷ not_below pc 12 q.stack (register_in B w)

@@ -2,7 +2,7 @@
 use Rattle.std.specs.Prelude.{◌≡◌, ℕ, ◌+◌, T, List, [], ◌∷◌, pos, ◌-ℤ◌}
 use Rattle.chunk.specs.Roles.{is_executable, role_at}
 use Rattle.chunk.specs.Table.{Proto}
-use Rattle.verdict.specs.Operands.{upvalue_b, flag_a, child_bx}
+use Rattle.verdict.specs.Operands.{upvalue_b, flag_a, flag_limit, child_bx}
 use Rattle.verdict.specs.Rules.{Below, Lands, registers_of, constants_of}
 use Rattle.validator.specs.declared.clean.Flow.{Flow}
 use Rattle.validator.specs.declared.clean.Flow.TheVariants.{Next, Target, Past}
@@ -11,23 +11,23 @@ use Rattle.validator.specs.declared.clean.Limit.TheVariants.{Nothing, NothingK, 
 use Rattle.validator.specs.declared.clean.Shape.{Shape}
 use Rattle.validator.specs.declared.prototype.Prototype.{Prototype}
 
--- the limits of operands, by their places: of a field that names nothing, of a register, of an RK operand, of an upvalue (two places each, the second
+-- the limits of operands, by their slots: of a field that names nothing, of a register, of an RK operand, of an upvalue (two slots each, the second
 -- for values that have the bit of a constant), of a flag, of a child
 unfoldable pub limits_of : Prototype → List ℕ
-limits_of q = 262144 ∷ 262144 ∷ q.stack ∷ 0 ∷ q.stack ∷ q.constants ∷ q.upvalues ∷ 0 ∷ 2 ∷ q.children ∷ []
+limits_of q = 262144 ∷ 262144 ∷ q.stack ∷ 0 ∷ q.stack ∷ q.constants ∷ q.upvalues ∷ 0 ∷ flag_limit ∷ q.children ∷ []
 
--- the place of each in this list
-abbrev pub place : Limit → ℕ
-place Nothing = 0
-place NothingK = 1
-place Register = 2
-place RegisterK = 3
-place Rk = 4
-place Constant = 5
-place Upvalue = 6
-place UpvalueK = 7
-place Flag = 8
-place Child = 9
+-- the slot of each in this list
+abbrev pub slot : Limit → ℕ
+slot Nothing = 0
+slot NothingK = 1
+slot Register = 2
+slot RegisterK = 3
+slot Rk = 4
+slot Constant = 5
+slot Upvalue = 6
+slot UpvalueK = 7
+slot Flag = 8
+slot Child = 9
 
 -- what an opcode names and where its word goes: the limits of A, Bx, B and C, the spans that B and C end, and the way
 abbrev pub shape : Limit → Limit → Limit → Limit → ℕ → ℕ → Flow → Shape
@@ -84,7 +84,7 @@ shapes =
 pub record OperandsBelow (q : Prototype) (w : ℕ) : Type 0 where
   pub constant : Below q.constants (constants_of w)
   pub upvalue : Below q.upvalues (upvalue_b w)
-  pub flag : Below 2 (flag_a w)
+  pub flag : Below flag_limit (flag_a w)
   pub register : Below q.stack (registers_of w)
   pub child : Below q.children (child_bx w)
 

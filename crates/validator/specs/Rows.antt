@@ -1,8 +1,7 @@
 -- The prototype that a row of the table has: the terms of inner contracts. Assumes nothing: these are definitions.
 use Rattle.std.specs.Prelude.{ℕ, List}
 use Rattle.opcodes.specs.Bytes.{u32s}
-use Rattle.chunk.specs.Table.{Proto}
-use Rattle.roles.specs.Terms.{proto_in}
+use Rattle.chunk.specs.Table.{Proto, proto_in}
 use Rattle.validator.specs.declared.prototype.RowBody.{RowBody}
 
 -- the row's prototype, of these words

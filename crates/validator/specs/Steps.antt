@@ -5,10 +5,9 @@ use mathlib.Core.List.{foldl}
 use Rattle.std.proofs.Math.Option.{none}
 use Rattle.opcodes.specs.Bytes.{u32s, u32_record, i32_bits, i32_record, overwrite}
 use Rattle.opcodes.specs.Lists.{any}
-use Rattle.chunk.specs.Table.{row_bytes, row_at, rows}
-use Rattle.chunk.specs.Roles.{role_at, role_bytes}
+use Rattle.chunk.specs.Table.{row_bytes, row_at, rows, proto_in}
+use Rattle.chunk.specs.Roles.{role_at, role_bytes, role_in}
 use Rattle.chunk.specs.Refusals.{word_total, image_refusal}
-use Rattle.roles.specs.Terms.{proto_in, role_in}
 use Rattle.verdict.specs.Diagnostics.{Diagnostic, Step, proto_steps}
 use Rattle.verdict.specs.Walk.{RowDiagnostic, diagnostic_fields, diagnostic_bytes, error_in}
 use Rattle.verdict.specs.Image.{Image, image_walk}
@@ -58,8 +57,8 @@ unfoldable pub tested_of : WalkState → WalkState
 tested_of w = record { row = w.row; first = w.first; stop = w.stop; count = w.count; error = w.error; limit = w.limit || nat_le w.stop w.count }
 
 -- after a step, tested or not
-unfoldable pub advance : ℕ → State → Step → State
-advance row s step = cond (s.0.limit || step.tested && nat_le s.0.stop s.0.count) (ended s.0, s.1) (emit_all row step.adds s)
+unfoldable pub take_step : ℕ → State → Step → State
+take_step row s step = cond (s.0.limit || step.tested && nat_le s.0.stop s.0.count) (ended s.0, s.1) (emit_all row step.adds s)
 
 -- ---- rows
 
@@ -69,7 +68,7 @@ moved_to first w = record { row = w.row + 1; first = first; stop = w.stop; count
 
 -- the next row's own steps
 unfoldable pub own_steps : List ℕ → List ℕ → State → State
-own_steps table words s = foldl (advance s.0.row) s (proto_steps (proto_in table s.0.row (drop s.0.first (u32s words))))
+own_steps table words s = foldl (take_step s.0.row) s (proto_steps (proto_in table s.0.row (drop s.0.first (u32s words))))
 
 -- after a row's own steps: on to the next row, unless the walk has ended
 unfoldable pub onward : ℕ → State → State

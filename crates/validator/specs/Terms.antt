@@ -7,10 +7,10 @@ use Rattle.opcodes.specs.declared.Opcode51.{Opcode51}
 use Rattle.opcodes.specs.declared.OpcodeField.TheVariants.{Known}
 use Rattle.opcodes.specs.declared.RawInstruction51.{RawInstruction51}
 use Rattle.chunk.specs.Table.{Proto, row_bytes, row_at, rows, children}
-use Rattle.chunk.specs.Roles.{Role, Instruction, ClosureBinding, SetlistExtra, role_at}
+use Rattle.chunk.specs.Roles.{role_at, role_in}
 use Rattle.chunk.specs.Refusals.{bad_depth, max_rows}
 use Rattle.chunk.specs.Calls.{Answer, refused, accepted}
-use Rattle.roles.specs.Terms.{refused_of, role_in}
+use Rattle.roles.specs.Terms.{refused_of}
 use Rattle.roles.specs.declared.refusals.Refusal.{Refusal}
 use Rattle.verdict.specs.Diagnostics.{Diagnostic, diagnostic}
 use Rattle.verdict.specs.Walk.{Verdict, ValidForParser, Incomplete, Invalid, max_diagnostics, verdict_of}
@@ -38,19 +38,19 @@ abbrev pub image_in : ImageCode → Image
 image_in i = image_of i.protos.now i.words.now i.warnings i.errors
 
 -- a verdict
-unfoldable pub verdict_in : VerdictCode → Verdict
-verdict_in code.ValidForParser = ValidForParser
-verdict_in code.Incomplete = Incomplete
-verdict_in code.Invalid = Invalid
+unfoldable pub verdict_of_case : VerdictCode → Verdict
+verdict_of_case code.ValidForParser = ValidForParser
+verdict_of_case code.Incomplete = Incomplete
+verdict_of_case code.Invalid = Invalid
 
 -- the verdict and the number of diagnostics
-unfoldable pub checked_in : Validation → Checked
-checked_in v = record { verdict = verdict_in v.verdict; count = v.count }
+unfoldable pub checked_of : Validation → Checked
+checked_of v = record { verdict = verdict_of_case v.verdict; count = v.count }
 
 -- the call's answer
 unfoldable pub answer_of : Result Validation Refusal → Answer Checked
 answer_of (Err r) = refused (refused_of r)
-answer_of (Ok v) = accepted (checked_in v)
+answer_of (Ok v) = accepted (checked_of v)
 
 -- what a walk that has ended says
 unfoldable pub concluded : ℕ → ℕ → WalkState → Checked
@@ -152,12 +152,6 @@ as_list None = []
 as_list (Some v) = v ∷ []
 
 -- ---- truncated owners
-
--- the owner of a word at pc that has this role, or that pc where it is executable
-unfoldable pub last_owner : ℕ → Role → ℕ
-last_owner pc Instruction = pc
-last_owner pc (ClosureBinding owner index) = owner
-last_owner pc (SetlistExtra owner) = owner
 
 -- codes 1 and 2
 unfoldable pub fault_diagnostics : Option Lua51RoleFault → List Diagnostic

@@ -9,7 +9,7 @@ ghost use Rattle.verdict.specs.Check.{Checked, check_answer, checked, diagnostic
 ghost use Rattle.verdict.specs.Image.{diagnostics as found};
 ghost use Rattle.verdict.specs.Statements.{Guarantee};
 ghost use Rattle.verdict.specs.Walk.{max_diagnostics, diagnostic_bytes, diagnostic_fields, verdict_of};
-ghost use Rattle.validator.specs.Terms.{answer_of, checked_in, concluded, image_in, image_of, verdict_in};
+ghost use Rattle.validator.specs.Terms.{answer_of, checked_of, concluded, image_in, image_of, verdict_of_case};
 ghost use Rattle.validator.specs.Steps.{Walked};
 
 use crate::image::Image;
@@ -77,7 +77,7 @@ pub fn validate_chunk_lua51(
 // Walks the image once, into a buffer that has room for its diagnostics.
 fn validate_once(image: &Image, diagnostics: &mut [u8]) -> Validation
     requires { diagnostic_bytes * length (found (image_in image.now)) ≤ length diagnostics.old }
-    ensures result_value { checked_in result ≡ checked (image_in image.now) }
+    ensures result_value { checked_of result ≡ checked (image_in image.now) }
     ensures diagnostics_after { diagnostics.new ≡ overwrite diagnostics.old 0 (i32_record (flat_map diagnostic_fields (found (image_in image.now)))) }
 {
     let walk = validate_rows(image, diagnostics);
@@ -143,9 +143,9 @@ fn stop_count(image: &Image) -> u16
 }
 
 // The verdict of a walk, and the number of its diagnostics.
-#[tactic(auto, unfolding(crate::specs::Terms::checked_in, crate::specs::Terms::concluded))]
+#[tactic(auto, unfolding(crate::specs::Terms::checked_of, crate::specs::Terms::concluded))]
 fn conclude(image: &Image, walk: WalkState) -> Validation
-    ensures { checked_in result ≡ concluded image.now.warnings image.now.errors walk }
+    ensures { checked_of result ≡ concluded image.now.warnings image.now.errors walk }
 {
     Validation {
         verdict: verdict_of(has_errors(image, walk), limit_reached(image, walk)),
@@ -168,9 +168,9 @@ fn limit_reached(image: &Image, walk: WalkState) -> bool
 }
 
 // By whether there are errors and whether the limit was reached.
-#[tactic(auto, unfolding(crate::specs::Terms::verdict_in, verdict::specs::Walk::verdict_of))]
+#[tactic(auto, unfolding(crate::specs::Terms::verdict_of_case, verdict::specs::Walk::verdict_of))]
 fn verdict_of(errors: bool, limit: bool) -> Verdict
-    ensures { verdict_in result ≡ verdict_of errors limit }
+    ensures { verdict_of_case result ≡ verdict_of errors limit }
 {
     if errors {
         Verdict::Invalid

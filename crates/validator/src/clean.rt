@@ -11,12 +11,16 @@ ghost use Rattle.chunk.specs.Table.{Proto};
 ghost use Rattle.verdict.specs.Diagnostics.{diagnostics_at};
 ghost use Rattle.verdict.specs.Rules.{Lands};
 ghost use Rattle.validator.specs.Terms.{Describes, Stands};
-ghost use Rattle.validator.specs.Clean.{FlowKept, OperandsBelow, limits_of, names_nothing, place, shapes};
+ghost use Rattle.validator.specs.Clean.{FlowKept, OperandsBelow, limits_of, names_nothing, slot, shapes};
 
+use crate::operands::FLAG_LIMIT;
 use crate::prototype::Body;
-use crate::word::{LAST_OPCODE, OFFSET_SBX, is_companion};
-use opcodes::RawInstruction51;
+use crate::word::{OFFSET_SBX, is_companion};
 use opcodes::bytes::read_u32;
+use opcodes::{Opcode51, RawInstruction51};
+
+// The last opcode that is known, by its number: numbers above it have no opcode, and the table of shapes is by number.
+const LAST_OPCODE: u8 = Opcode51::VarArg as u8;
 
 // Above every field of a word.
 const NO_LIMIT: u32 = 262144;
@@ -38,9 +42,9 @@ enum Limit {
 }
 
 impl Limit {
-    // Its place in the list.
-    fn place(self) -> usize
-        ensures { result ≡ place self }
+    // Its slot in the list.
+    fn slot(self) -> usize
+        ensures { result ≡ slot self }
     {
         self as usize
     }
@@ -55,9 +59,8 @@ enum Flow {
     Past(u8),
 }
 
-// What an opcode names, and where its word goes: the limits of A, Bx, B and C, and the spans that B and C end: 2 * n + 1 ends at register
-// A + n - 2 + the field, 2 * n at A + n - 2; 0 is none. (A span is one number so that a shape has eight bytes: with a start and a flag for each the
-// check took 4 % longer on words without diagnostics than with shapes packed in a u32, in this form 2 % less.)
+// What an opcode names, and where its word goes: the limits of A, Bx, B and C, and the spans that B and C end. A span is one number: 2 * n + 1 ends at
+// register A + n - 2 + the field, 2 * n at A + n - 2; 0 is none. So a shape has eight bytes: docs/DECISIONS.md has the measurement.
 #[derive(Clone, Copy)]
 struct Shape {
     a: Limit,
@@ -250,7 +253,7 @@ pub fn next_suspect(body: &Body, from: usize) -> usize
         proto.constants,
         proto.upvalues,
         0,
-        2,
+        FLAG_LIMIT,
         proto.children,
     ];
     let test = CleanTest {
@@ -266,7 +269,7 @@ pub fn next_suspect(body: &Body, from: usize) -> usize
     n
 }
 
-// What the test of each word looks at: its prototype's words and roles, and the limits by their places.
+// What the test of each word looks at: its prototype's words and roles, and the limits by their slots.
 #[derive(Clone, Copy)]
 struct CleanTest<'a> {
     body: &'a Body<'a>,
@@ -319,18 +322,18 @@ fn word_at(code: &[u8], pc: usize) -> u32
 
 // Whether a value is below this limit.
 fn is_below(limits: &[u32], limit: Limit, value: u32) -> bool
-    requires { place limit < length limits.now }
-    ensures { result ≡ nat_lt value (slice_index limits.now (place limit)) }
+    requires { slot limit < length limits.now }
+    ensures { result ≡ nat_lt value (slice_index limits.now (slot limit)) }
 {
-    value < limits[limit.place()]
+    value < limits[limit.slot()]
 }
 
-// B or C: a value that has the bit of a constant has the next place.
+// B or C: a value that has the bit of a constant has the next slot.
 fn field_below(limits: &[u32], limit: Limit, value: u16) -> bool
-    requires { (place limit + 1 < length limits.now) × (value < 512) }
-    ensures { result ≡ nat_lt (value % 256) (slice_index limits.now (place limit + value / 256)) }
+    requires { (slot limit + 1 < length limits.now) × (value < 512) }
+    ensures { result ≡ nat_lt (value % 256) (slice_index limits.now (slot limit + value / 256)) }
 {
-    ((value % 256) as u32) < limits[limit.place() + (value / 256) as usize]
+    ((value % 256) as u32) < limits[limit.slot() + (value / 256) as usize]
 }
 
 // Whether the span that a field of this value ends is below the stack.

@@ -3,11 +3,10 @@ ghost use Rattle.std.specs.Prelude.{◌≡◌, ℕ, ◌+◌, ◌/◌, List, leng
 ghost use mathlib.Core.List.{flat_map};
 ghost use Rattle.opcodes.specs.Lists.{up_from};
 ghost use Rattle.opcodes.specs.Words.{decoded};
-ghost use Rattle.chunk.specs.Roles.{claims};
-ghost use Rattle.roles.specs.Terms.{role_in};
+ghost use Rattle.chunk.specs.Roles.{claims, last_owner, role_in};
 ghost use Rattle.verdict.specs.Diagnostics.{truncation_at};
 ghost use Rattle.validator.specs.Rows.{proto_of_row, proto_with};
-ghost use Rattle.validator.specs.Terms.{fault_diagnostics, last_owner};
+ghost use Rattle.validator.specs.Terms.{fault_diagnostics};
 
 use crate::prototype::RowBody;
 use opcodes::bytes::read_u32;
@@ -47,7 +46,7 @@ pub fn find_fault(row: &RowBody) -> Option<Lua51RoleFault>
 }
 
 // The owner of the word at pc, or that pc where it is executable.
-#[tactic(auto, unfolding(crate::specs::Terms::last_owner))]
+#[tactic(auto, unfolding(chunk::specs::Roles::last_owner))]
 fn last_owner(roles: &[u8], pc: u32) -> u32
     ensures { result ≡ last_owner pc (role_in roles.now pc) }
 {

@@ -9,6 +9,9 @@ ghost use Rattle.validator.specs.Terms.{Decodes, as_list};
 use crate::walk::Location;
 use opcodes::{Field, Opcode51, RawInstruction51, index_k, is_k};
 
+// A comparison's flag is below this.
+pub const FLAG_LIMIT: u32 = 2;
+
 // A word that was split, with its place and its opcode, which is known.
 #[derive(Clone, Copy)]
 pub struct KnownWord {

@@ -5,12 +5,11 @@ ghost use Rattle.opcodes.specs.Bytes.{u32s};
 ghost use Rattle.opcodes.specs.Lists.{up_from};
 ghost use Rattle.chunk.specs.Refusals.{max_word_bytes};
 ghost use Rattle.chunk.specs.Roles.{role_bytes};
-ghost use Rattle.chunk.specs.Table.{Proto, row_at, row_bytes};
-ghost use Rattle.roles.specs.Terms.{proto_in};
+ghost use Rattle.chunk.specs.Table.{Proto, proto_in, row_at, row_bytes};
 ghost use Rattle.verdict.specs.Diagnostics.{diagnostics_at, proto_steps, stack_diagnostics, tested_step};
 ghost use Rattle.validator.specs.Rows.{proto_of_row};
 ghost use Rattle.validator.specs.Terms.{Describes, Limits, fault_diagnostics, prototype_of};
-ghost use Rattle.validator.specs.Steps.{Begins, advance, emit_all, goes_on, own_steps, step_row, walk_to};
+ghost use Rattle.validator.specs.Steps.{Begins, take_step, emit_all, goes_on, own_steps, step_row, walk_to};
 
 use crate::clean::next_suspect;
 use crate::codes::Code;
@@ -96,7 +95,7 @@ fn validate_row(walk: WalkState, table: &Table, out: &mut [u8], proto: Prototype
 
 // The prototype's own diagnostics.
 fn validate_own(walk: WalkState, out: &mut [u8], row: &RowBody) -> WalkState
-    ensures { (result, out.new) ≡ foldl (advance row.now.body.proto.row) (walk, out.old) (proto_steps (proto_of_row row.now)) }
+    ensures { (result, out.new) ≡ foldl (take_step row.now.body.proto.row) (walk, out.old) (proto_steps (proto_of_row row.now)) }
 {
     let walk = walk.tested();
     if walk.limit {
@@ -117,7 +116,7 @@ fn validate_fault(
     row: u32,
     fault: Option<Lua51RoleFault>,
 ) -> WalkState
-    ensures { (result, out.new) ≡ foldl (advance row) (walk, out.old) (map (λ d. tested_step (d ∷ [])) (fault_diagnostics fault)) }
+    ensures { (result, out.new) ≡ foldl (take_step row) (walk, out.old) (map (λ d. tested_step (d ∷ [])) (fault_diagnostics fault)) }
 {
     let Some(fault) = fault else {
         return walk;
@@ -148,7 +147,7 @@ fn validate_stack(walk: WalkState, out: &mut [u8], proto: &Prototype) -> WalkSta
 // The words, each after a test. The test before a word that has no diagnostics gives what the last one gave, so these are passed over after one.
 // (A `while`: `next_suspect` finds the next pc.)
 fn validate_words(mut walk: WalkState, out: &mut [u8], body: &Body) -> WalkState
-    ensures { (p : Proto) → Describes p body.now.proto body.now.code.now body.now.roles.now → (result, out.new) ≡ foldl (advance body.now.proto.row) (walk, out.old) (map (λ pc. tested_step (diagnostics_at p pc)) (up_from 0 (length body.now.code.now / 4))) }
+    ensures { (p : Proto) → Describes p body.now.proto body.now.code.now body.now.roles.now → (result, out.new) ≡ foldl (take_step body.now.proto.row) (walk, out.old) (map (λ pc. tested_step (diagnostics_at p pc)) (up_from 0 (length body.now.code.now / 4))) }
 {
     let n = body.code.len() / 4;
     let mut pc = 0;

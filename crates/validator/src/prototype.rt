@@ -2,8 +2,7 @@
 ghost use Rattle.std.specs.Prelude.{◌≡◌, ◌+◌, ◌*◌, ◌/◌, ◌<◌, ◌≤◌, length};
 ghost use Rattle.opcodes.specs.Bytes.{u32s};
 ghost use Rattle.chunk.specs.Refusals.{max_word_bytes};
-ghost use Rattle.chunk.specs.Table.{row_bytes};
-ghost use Rattle.roles.specs.Terms.{proto_in};
+ghost use Rattle.chunk.specs.Table.{proto_in, row_bytes};
 ghost use Rattle.validator.specs.Steps.{Filled};
 ghost use Rattle.validator.specs.Terms.{ChildCounts, Counted, Describes, Ordered, prototype_of};
 

@@ -2,7 +2,7 @@
 ghost use Rattle.std.specs.Prelude.{◌≡◌, ◌<◌, [], ◌∷◌, pos};
 ghost use Rattle.chunk.specs.Refusals.{max_rows};
 ghost use Rattle.verdict.specs.Diagnostics.{diagnostic, not_below, tested_step};
-ghost use Rattle.validator.specs.Steps.{advance, emit_all, emitted, emitted_if, moved_to, tested_of};
+ghost use Rattle.validator.specs.Steps.{take_step, emit_all, emitted, emitted_if, moved_to, tested_of};
 ghost use Rattle.validator.specs.Terms.{code_number, as_list};
 
 use crate::calls::DIAGNOSTIC_BYTES;
@@ -70,7 +70,7 @@ impl WalkState {
 
     // Adds the diagnostic of a word after a test.
     pub fn report(self, out: &mut [u8], at: Location, code: Code, value: u32) -> WalkState
-        ensures { (result, out.new) ≡ advance at.row (self, out.old) (tested_step (diagnostic at.pc (code_number code) (pos value) ∷ [])) }
+        ensures { (result, out.new) ≡ take_step at.row (self, out.old) (tested_step (diagnostic at.pc (code_number code) (pos value) ∷ [])) }
     {
         let walk = self.tested();
         if walk.limit {

@@ -1,18 +1,17 @@
 // The diagnostics of one executable word, in the order of document 01's table.
-ghost use Rattle.std.specs.Prelude.{◌≡◌, ◌+◌, ◌*◌, ◌/◌, ◌<◌, not, ◌&&◌, T, [], ◌∷◌, length, pos, ◌-ℤ◌, if◌then◌else◌, nat_lt};
+ghost use Rattle.std.specs.Prelude.{◌≡◌, ◌+◌, ◌*◌, ◌/◌, ◌<◌, not, ◌&&◌, T, [], ◌∷◌, length, pos, ◌-ℤ◌};
 ghost use mathlib.Core.List.{flat_map, flatten};
-ghost use Rattle.opcodes.specs.Lists.{elem, only, up_from};
-ghost use Rattle.opcodes.specs.Words.{CLOSURE, GETUPVAL, MOVE, VARARG, is};
-ghost use Rattle.chunk.specs.Roles.{Executable, binding_words, is_executable, word_at};
+ghost use Rattle.opcodes.specs.Lists.{only, up_from};
+ghost use Rattle.opcodes.specs.Words.{CLOSURE, is};
+ghost use Rattle.chunk.specs.Roles.{Executable, binding_words, is_executable, role_in, word_at};
 ghost use Rattle.chunk.specs.Table.{Proto};
-ghost use Rattle.roles.specs.Terms.{role_in};
 ghost use Rattle.verdict.specs.Diagnostics.{binding_diagnostics, diagnostic, jump_diagnostics, not_below, opcode_value, operand_diagnostics, skip_diagnostics, target_diagnostics, word_diagnostics};
 ghost use Rattle.verdict.specs.Operands.{captured_register, captured_upvalue, is_binding, is_skip, skip_target};
 ghost use Rattle.validator.specs.Terms.{Describes, Limits, Stands};
 ghost use Rattle.validator.specs.Steps.{emit_all};
 
 use crate::codes::Code;
-use crate::operands::KnownWord;
+use crate::operands::{FLAG_LIMIT, KnownWord};
 use crate::prototype::{Body, Prototype};
 use crate::walk::{Location, WalkState};
 use opcodes::Field::{B, C};
@@ -22,9 +21,6 @@ use roles::role::role_at;
 
 // What Bx has more than sBx.
 pub const OFFSET_SBX: u32 = RawInstruction51::OFFSET_SBX as u32;
-
-// The last opcode that is known, by its number: numbers above it have no opcode, and the table of shapes is by number.
-pub const LAST_OPCODE: u8 = Opcode51::VarArg as u8;
 
 // The word at pc: of an unknown opcode, nothing but that.
 pub fn validate_word(walk: WalkState, out: &mut [u8], body: &Body, pc: usize) -> WalkState
@@ -118,7 +114,7 @@ fn validate_operands(
     let (first, second) = word.span_ends();
     let walk = walk.check(out, at, Code::Const003, word.constant_bx(), constants);
     let walk = walk.check(out, at, Code::Upval001, word.upvalue_b(), proto.upvalues);
-    let walk = walk.check(out, at, Code::Bool001, word.flag_a(), 2);
+    let walk = walk.check(out, at, Code::Bool001, word.flag_a(), FLAG_LIMIT);
     let walk = walk.check(out, at, Code::Reg001, word.register_a(), stack);
     let walk = walk.check(out, at, Code::RegSpan001, first, stack);
     let walk = walk.check(out, at, Code::RegSpan001, second, stack);
@@ -149,7 +145,7 @@ fn validate_bindings(mut walk: WalkState, out: &mut [u8], body: &Body, pc: usize
     walk
 }
 
-// A binding word: code 17, and codes 12 and 8 for what it captures. Told by number: docs/DECISIONS.md says what it took with the enum matched.
+// A binding word: code 12 or 8 for what it captures, or code 17 where its opcode captures nothing.
 fn validate_binding(
     walk: WalkState,
     out: &mut [u8],
@@ -160,28 +156,22 @@ fn validate_binding(
     ensures { (result, out.new) ≡ emit_all at.row (flatten (only (not (is_binding word)) (diagnostic at.pc 17 (opcode_value word)) ∷ not_below at.pc 12 proto.now.stack (captured_register word) ∷ not_below at.pc 8 proto.now.upvalues (captured_upvalue word) ∷ [])) (walk, out.old) }
 {
     let w = RawInstruction51::decode(word);
-    let other = !is_binding(w.opcode_num);
-    let opcode = other.then_some(opcode_value(w.opcode_num));
-    let register = (w.opcode_num == Opcode51::Move as u8).then_some(w.b as u32);
-    let upvalue = (w.opcode_num == Opcode51::GetUpval as u8).then_some(w.b as u32);
-    let walk = walk.emit_if(out, at, Code::Closure002, opcode);
-    let walk = walk.check(out, at, Code::Reg002, register, proto.stack);
-    walk.check(out, at, Code::Upval001, upvalue, proto.upvalues)
-}
-
-// Whether a word of this opcode captures something.
-fn is_binding(opcode: u8) -> bool
-    ensures { result ≡ elem opcode (MOVE ∷ GETUPVAL ∷ []) }
-{
-    opcode == Opcode51::Move as u8 || opcode == Opcode51::GetUpval as u8
-}
-
-// The opcode, or the bits of -1 where it is unknown.
-fn opcode_value(opcode: u8) -> u32
-    ensures { result ≡ (if nat_lt VARARG opcode then 0xffff_ffff else opcode) }
-{
-    if LAST_OPCODE < opcode {
-        return MINUS_ONE;
+    match w.opcode {
+        OpcodeField::Known(Opcode51::Move) => walk.check(
+            out,
+            at,
+            Code::Reg002,
+            Some(w.b as u32),
+            proto.stack,
+        ),
+        OpcodeField::Known(Opcode51::GetUpval) => walk.check(
+            out,
+            at,
+            Code::Upval001,
+            Some(w.b as u32),
+            proto.upvalues,
+        ),
+        OpcodeField::Known(_) => walk.emit(out, at, Code::Closure002, w.opcode_num as u32),
+        OpcodeField::Unknown(_) => walk.emit(out, at, Code::Closure002, MINUS_ONE),
     }
-    opcode as u32
 }

@@ -8,13 +8,13 @@ use mathlib.Core.List.{List, [], ◌∷◌}
 use lib.Dec.{T, ltb, ltb→lt, nltb→le}
 use lib.ListN.{length}
 use lib.IntN.{ℤ, pos, negsuc}
-use Rattle.opcodes.specs.Lists.{all_nil, all_cons}
+use Rattle.opcodes.specs.Lists.{All, all_nil, all_cons}
 use Rattle.opcodes.specs.Words.{operand, C, is, with_sbx, JMP, FORPREP, FORLOOP, RETURN, TAILCALL, EQ, LT, LE, TEST, TESTSET, TFORLOOP, LOADBOOL, CLOSURE, SETLIST}
 use Rattle.chunk.specs.Table.{Proto}
 use Rattle.chunk.specs.Roles.{Executable, is_executable, role_at, word_at, owned, existing, is_truncated, companions}
 use Rattle.verdict.specs.Operands.{is_jump, is_skip, is_loadbool_skip, skip_target, target}
 use Rattle.verdict.specs.Rules.{Lands, RulesAt, WellFormed, OperandsInRange}
-use Rattle.verdict.specs.Executions.{State, at, left, arrive, next, meet, run_from, run, MayLeave, MayMeet, Safe, SafeRun}
+use Rattle.verdict.specs.Executions.{State, at, left, arrive, next, meet, run_from, run, MayLeave, MayMeet, SafeRun}
 use Rattle.opcodes.proofs.TestLaws.{t_and, by_cond, by_or, or_right, disjoint, is_among}
 use Rattle.chunk.proofs.RoleLaws.{role, executable, first_executable, next_executable, owns_none}
 
@@ -79,15 +79,17 @@ in_range p pc k =
 may_meet : (p : Proto) → WellFormed p → (pc : ℕ) → Executable p pc → MayMeet p pc
 may_meet p k pc x = record { executable = x; operands = in_range p pc (k.words pc x) }
 
-from_fine : (p : Proto) → WellFormed p → (choices : List Bool) (s : State) → Fine p s → Safe p (run_from p choices s)
+from_fine : (p : Proto) → WellFormed p → (choices : List Bool) (s : State) → Fine p s → All (MayMeet p) (run_from p choices s).met × MayLeave p (run_from p choices s).exit
 unfolding run_from meet
-from_fine p k [] (left e) x = record { met = all_nil; exit = x }
-from_fine p k [] (at pc) x = record { met = all_cons (may_meet p k pc x) all_nil; exit = tt }
-from_fine p k (c ∷ cs) (left e) x = record { met = all_nil; exit = x }
+from_fine p k [] (left e) x = (all_nil, x)
+from_fine p k [] (at pc) x = (all_cons (may_meet p k pc x) all_nil, tt)
+from_fine p k (c ∷ cs) (left e) x = (all_nil, x)
 from_fine p k (c ∷ cs) (at pc) x =
-    let r = from_fine p k cs (next p pc c) (next_fine p pc c x (k.words pc x)) in
-    record { met = all_cons (may_meet p k pc x) r.met; exit = r.exit }
+    let (met, exit) = from_fine p k cs (next p pc c) (next_fine p pc c x (k.words pc x)) in
+    (all_cons (may_meet p k pc x) met, exit)
 
 pub runs_safe : (p : Proto) → WellFormed p → (choices : List Bool) → SafeRun p choices
 unfolding SafeRun run
-runs_safe p k choices = from_fine p k choices (arrive p (pos 0)) (arrive_role p 0 (first_executable p))
+runs_safe p k choices =
+    let (met, exit) = from_fine p k choices (arrive p (pos 0)) (arrive_role p 0 (first_executable p)) in
+    record { met = met; exit = exit }

@@ -2,20 +2,21 @@
 use Prim.Native.Nat.{ℕ, ◌*◌, ◌≤◌}
 use native.Mathlib.Omega.{arith}
 use mathlib.Core.Path.{◌≡◌, refl, sym, ◌∙◌, ap, subst⁻¹}
-use mathlib.Core.Logic.{◌↔◌, ◌⊎◌}
+use mathlib.Core.Logic.{◌↔◌, ◌≢◌}
 use mathlib.Core.List.{List, ◌++◌, flat_map}
 use lib.ListN.{length, drop}
+use mathlib.Core.Option.{none}
 use Rattle.opcodes.specs.Bytes.{i32_record}
 use Rattle.chunk.specs.Table.{rows}
 use Rattle.chunk.specs.Roles.{roles, records_of}
 use Rattle.chunk.specs.Refusals.{Refused, roles_refusal, word_total}
-use Rattle.chunk.specs.Calls.{accepted, refused, roles_after}
-use Rattle.verdict.specs.Walk.{Verdict, diagnostic_fields}
+use Rattle.chunk.specs.Calls.{accepted, refused, roles_after, bindings_answer, bindings_after}
+use Rattle.verdict.specs.Walk.{Verdict, most_diagnostics, diagnostic_fields}
 use Rattle.verdict.specs.Image.{Image, image_protos, diagnostics, verdict}
 use Rattle.verdict.specs.Check.{Checked, checked, check_refusal, check_answer, diagnostics_after}
-use Rattle.verdict.specs.Statements.{Accepted, Guarantee}
+use Rattle.verdict.specs.Statements.{Accepted, Guarantee, RolesLeft}
 use Rattle.opcodes.proofs.AllLaws.{all_imp, all_of}
-use Rattle.chunk.proofs.UntouchedLaws.{refused_leaves, refused_before}
+use Rattle.chunk.proofs.UntouchedLaws.{refused_leaves, roles_left, bindings_untouched, bindings_roles_left}
 use Rattle.opcodes.proofs.ListLaws.{length_flat_map}
 use Rattle.chunk.proofs.WrittenLaws.{accepted_none, accepted_result, written, fits, roles_written}
 use Rattle.chunk.proofs.RefusalLaws.{or_else_none}
@@ -41,17 +42,27 @@ check_guaranteed i role_length diagnosticLength c e =
       valid = λ q. all_imp (λ p w. record { well_formed = w; runs = runs_safe p w }) (valid_well_formed i (sym v ∙ q));
       exact = λ z h. verdict_iff v (valid_well_formed i, well_formed_valid i z h);
       invalid = verdict_iff v (invalid_iff i);
-      most = subst⁻¹ (λ (m : ℕ). m ≤ 10255) n (at_most i a);
+      most = subst⁻¹ (λ (m : ℕ). m ≤ most_diagnostics) n (at_most i a);
     }
 
--- a refused check call leaves its buffers, but 8 comes with the roles written
-pub check_untouched : (i : Image) (roleBuffer buffer : List ℕ) (r : Refused) → check_answer i (length roleBuffer) (length buffer) ≡ refused r
-    → (diagnostics_after i (length roleBuffer) buffer ≡ buffer) × ((r.number ≡ 8) ⊎ (roles_after i.table i.words roleBuffer ≡ roleBuffer))
-unfolding check_answer check_refusal diagnostics_after roles_after
-check_untouched i roleBuffer buffer r e = (
-  refused_leaves (check_refusal i (length roleBuffer) (length buffer)) _ r buffer _ e,
-  refused_before (roles_refusal i.table i.words (length roleBuffer)) _ _ (length buffer) _ r roleBuffer _ e,
-)
+-- what a refused call leaves of the role buffer, from what it met
+roles_of_refused : (table words old : List ℕ) (r : Refused) → (r.number ≡ 8 → roles_refusal table words (length old) ≡ none) → (r.number ≢ 8 → roles_after table words old ≡ old)
+    → RolesLeft table words old r
+roles_of_refused table words old r met left = record { written = λ h. roles_written table words old (met h); untouched = left }
+
+-- a refused bindings call or check call leaves its buffers, but 8 comes with the roles written
+pub bindings_leaves : (table words roleBuffer bindings : List ℕ) (r : Refused) → bindings_answer table words (length roleBuffer) (length bindings) ≡ refused r
+    → (bindings_after table words (length roleBuffer) bindings ≡ bindings) × RolesLeft table words roleBuffer r
+bindings_leaves table words roleBuffer bindings r e =
+    let left = bindings_roles_left table words roleBuffer bindings r e in
+    (bindings_untouched table words roleBuffer bindings r e, roles_of_refused table words roleBuffer r left.0 left.1)
+
+pub check_leaves : (i : Image) (roleBuffer buffer : List ℕ) (r : Refused) → check_answer i (length roleBuffer) (length buffer) ≡ refused r
+    → (diagnostics_after i (length roleBuffer) buffer ≡ buffer) × RolesLeft i.table i.words roleBuffer r
+unfolding check_answer check_refusal diagnostics_after
+check_leaves i roleBuffer buffer r e =
+    let left = roles_left i.table i.words roleBuffer _ _ _ _ r e in
+    (refused_leaves (check_refusal i (length roleBuffer) (length buffer)) _ r buffer _ e, roles_of_refused i.table i.words roleBuffer r left.0 left.1)
 
 -- an accepted one leaves its records in front of both buffers
 pub check_written : (i : Image) (roleBuffer buffer : List ℕ) (c : Checked) → check_answer i (length roleBuffer) (length buffer) ≡ accepted c

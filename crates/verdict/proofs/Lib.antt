@@ -4,7 +4,11 @@ pub mod GuaranteeLaws
 pub mod LimitLaws
 pub mod MostLaws
 pub mod RangeLaws
+pub mod RecordLaws
 pub mod RuleLaws
+pub mod OperandLaws
+pub mod RunLaws
 pub mod Theorems
 pub mod TreeLaws
 pub mod WalkLaws
+pub mod Witnesses

@@ -18,12 +18,12 @@ use Rattle.chunk.proofs.TableLaws.{children_most}
 use Rattle.chunk.specs.Roles.{is_executable, role_at, executable_at, word_at, binding_count, existing, binding_words}
 use Rattle.verdict.specs.Operands.{is_unknown, is_binding, is_jump, target, is_skip, is_loadbool_skip, skip_target, constant_bx, upvalue_b, flag_a, register_a, span_ends, register_in, constant_in, child_bx, captured_register, captured_upvalue}
 use Rattle.verdict.specs.Diagnostics.{Diagnostic, diagnostic, opcode_value, not_below, truncation_at, has_large_stack, stack_diagnostics, opcode_diagnostics, target_diagnostics, jump_diagnostics, skip_diagnostics, binding_diagnostics, operand_diagnostics, known_diagnostics, word_diagnostics, diagnostics_at, Step, tested_step, untested_step, proto_steps}
-use Rattle.verdict.specs.Walk.{in_row, Walk, max_diagnostics, count_n, start, advance, walk_row, walk_from, walk}
+use Rattle.verdict.specs.Walk.{in_row, Walk, max_diagnostics, most_diagnostics, count_n, start, advance, walk_row, walk_from, walk}
 use Rattle.verdict.specs.Image.{Image, image_protos, image_walk, diagnostics}
 use Rattle.verdict.specs.Statements.{Accepted}
 use Rattle.opcodes.proofs.AllLaws.{all_get_d, all_imp}
 use Rattle.opcodes.proofs.ListLaws.{length_up_from, select_most}
-use Rattle.opcodes.proofs.TestLaws.{is_not, is_among, true≢false, or-false, t_true, by_cond, disjoint}
+use Rattle.opcodes.proofs.TestLaws.{is_not, is_among, true≢false, or_false, t_true, by_cond, disjoint}
 
 -- ---- lists end to end, so many at most
 
@@ -201,7 +201,7 @@ word_most p pc h = at (executable_at p pc) (is_unknown (word_at p pc)) (is (word
 
 -- so many found at most, and where the walk goes on, so many
 record Within (going : ℕ) (v : Walk) : Type 0 where
-  most : length v.found ≤ 10255
+  most : length v.found ≤ most_diagnostics
   while_going : v.ended ≡ false → length v.found ≤ going
 
 within_more : {m n : ℕ} {v : Walk} → m ≤ n → Within m v → Within n v
@@ -217,7 +217,7 @@ step_within incoming row m n v s k h l = go (v.ended || s.tested && leb max_diag
         → Within n (cond b (record { found = v.found; ended = true }) (record { found = v.found ++ map (in_row row) s.adds; ended = false }))
     go true e = record { most = k.most; while_going = λ f. true≢false f }
     go false e =
-        let t = or-false v.ended (s.tested && leb max_diagnostics (count_n incoming v)) e in
+        let t = or_false v.ended (s.tested && leb max_diagnostics (count_n incoming v)) e in
         let count : length (v.found ++ map (in_row row) s.adds) ≤ n =
         omega (arith, length-append v.found (map (in_row row) s.adds), length-map s.adds (in_row row), h t.0 t.1) in
         record { most = omega arith; while_going = λ _. count }
@@ -264,7 +264,7 @@ walk_within incoming row [] v h k = k
 walk_within incoming row (p ∷ ps) v (all_cons h hs) k = walk_within incoming (suc row) ps (walk_row incoming row v (proto_steps p)) hs (row_within incoming row p v h k)
 
 -- an accepted image
-pub at_most : (i : Image) → Accepted i → length (diagnostics i) ≤ 10255
+pub at_most : (i : Image) → Accepted i → length (diagnostics i) ≤ most_diagnostics
 unfolding Accepted diagnostics image_walk image_protos protos walk
 at_most i a =
     let kept = image_kept i.table i.words a in

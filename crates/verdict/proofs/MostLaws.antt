@@ -17,7 +17,7 @@ use Rattle.chunk.specs.Roles.{Role, Instruction, ClosureBinding, binding_count, 
 use Rattle.verdict.specs.Operands.{is_unknown, is_binding, is_jump, is_skip, is_loadbool_skip, constant_bx, upvalue_b, flag_a, register_a, span_ends, register_in, constant_in, child_bx, captured_register, captured_upvalue}
 use Rattle.verdict.specs.Diagnostics.{Diagnostic, truncation_at, opcode_diagnostics, jump_diagnostics, skip_diagnostics, not_below, operand_diagnostics, binding_diagnostics, known_diagnostics, word_diagnostics, diagnostics_at}
 use Rattle.verdict.specs.Diagnostics.{Step, tested_step, untested_step, has_large_stack, stack_diagnostics, proto_steps}
-use Rattle.verdict.specs.Walk.{in_row, Walk, max_diagnostics, count_n, start, advance, walk_row, walk_from, walk}
+use Rattle.verdict.specs.Walk.{in_row, Walk, max_diagnostics, most_diagnostics, count_n, start, advance, walk_row, walk_from, walk}
 use Rattle.verdict.proofs.WalkLaws.{advance_going}
 use Rattle.verdict.proofs.TreeLaws.{Begins, begins, advance_ended, proto_begins}
 use Rattle.opcodes.specs.Bytes.{u32_at, u32_bytes, u32_record}
@@ -269,7 +269,7 @@ fullest_protos =
     let all : take 10255 (full_code 9999 255) ≡ full_code 9999 255 = take_all 10255 (full_code 9999 255) (omega (arith, length_code 9999 255)) in
     rw (full_rows, u32s_record (full_code 9999 255) (words_small 9999 255), all)
 
-pub fullest_count : length (diagnostics fullest) ≡ 10255
+pub fullest_count : length (diagnostics fullest) ≡ most_diagnostics
 unfolding diagnostics image_walk walk walk_from fullest
 fullest_count =
     let second : Proto = record { code = []; constants = 0; upvalues = 255; stack = 0; children = [] } in

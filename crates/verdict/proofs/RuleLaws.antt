@@ -14,7 +14,7 @@ use Rattle.opcodes.specs.Lists.{All, all_nil, all_cons, only, up_from, select, k
 use Rattle.opcodes.specs.Words.{opcode, is, B, C, CLOSURE}
 use Rattle.chunk.specs.Table.{Proto}
 use Rattle.chunk.specs.Roles.{is_executable, executable_at, Executable, role_at, word_at, owned, existing, companions, is_truncated, binding_words}
-use Rattle.verdict.specs.Operands.{is_unknown, is_binding, is_jump, target, is_skip, skip_target, constant_bx, upvalue_b, flag_a, register_a, span_ends, register_in, constant_in, child_bx, captured_register, captured_upvalue}
+use Rattle.verdict.specs.Operands.{is_unknown, is_binding, is_jump, target, is_skip, skip_target, constant_bx, upvalue_b, flag_a, flag_limit, register_a, span_ends, register_in, constant_in, child_bx, captured_register, captured_upvalue}
 use Rattle.verdict.specs.Diagnostics.{Diagnostic, diagnostic, is_error, not_below, truncation_at, opcode_diagnostics, target_diagnostics, jump_diagnostics, skip_diagnostics, binding_diagnostics, operand_diagnostics, known_diagnostics, word_diagnostics, diagnostics_at}
 use Rattle.verdict.specs.Statements.{RulesByCodes}
 use Rattle.verdict.specs.Rules.{Below, registers_of, constants_of, Lands, JumpKept, BindingKept, RulesAt, WellFormed}
@@ -99,6 +99,9 @@ tells_below pc code limit (v ∷ vs) e = go (leb limit v) refl (tells_below pc c
         let h : v < limit = nleb→lt limit v (subst (λ (b : Bool). T (not b)) (sym q) tt) in
         tells_as (λ k. all_cons h k) (λ k. all_tail k) t
 
+pub below_none : (pc code limit : ℕ) (vs : List ℕ) → T (not (eqb code 3)) → Below limit vs → not_below pc code limit vs ≡ []
+below_none pc code limit vs e = (tells_below pc code limit vs e).none
+
 tells_target : (p : Proto) (pc : ℕ) (z : ℤ) → Tells (target_diagnostics p pc z) (Lands p z)
 unfolding target_diagnostics
 tells_target p pc (negsuc n) = tells_error _ [] tt (λ x. x)
@@ -140,7 +143,7 @@ pub record KnownKept (p : Proto) (pc : ℕ) : Type 0 where
   pub jump : JumpKept p pc
   pub constant : Below p.constants (constants_of (word_at p pc))
   pub upvalue : Below p.upvalues (upvalue_b (word_at p pc))
-  pub flag : Below 2 (flag_a (word_at p pc))
+  pub flag : Below flag_limit (flag_a (word_at p pc))
   pub register : Below p.stack (registers_of (word_at p pc))
   pub proto : Below (length p.children) (child_bx (word_at p pc))
   pub binding : (j : ℕ) → j < binding_words p pc → BindingKept p (word_at p (pc + 1 + j))
@@ -173,7 +176,7 @@ tells_kept p pc =
     and tells_skip p pc w
     and (tells_below pc 7 p.constants (constant_bx w) tt
     and tells_below pc 8 p.upvalues (upvalue_b w) tt
-    and tells_below pc 9 2 (flag_a w) tt
+    and tells_below pc 9 flag_limit (flag_a w) tt
     and tells_below pc 10 p.stack (register_a w) tt
     and tells_below pc 11 p.stack (span_ends w) tt
     and tells_below pc 12 p.stack (register_in B w) tt
@@ -291,7 +294,7 @@ rules_by_codes p pc =
           (tells_below pc 7 p.constants (constant_bx w) tt and tells_below pc 14 p.constants (constant_in B w) tt and tells_below pc 15 p.constants (constant_in C w) tt and tell_nil).all
           );
       upvalue = tells_iff (tells_below pc 8 p.upvalues (upvalue_b w) tt);
-      flag = tells_iff (tells_below pc 9 2 (flag_a w) tt);
+      flag = tells_iff (tells_below pc 9 flag_limit (flag_a w) tt);
       register = tells_iff (
           tells_as (λ (a, (s, (b, (c, _)))). all_flatten (all_cons a (all_cons s (all_cons b (all_cons c all_nil)))))
           (λ h.

@@ -1,28 +1,28 @@
 -- The walk row by row is the walk by prototypes and their children, as luad's `validate_proto` goes: a prototype's own steps, then each child with a test
 -- of N before it. Assumes nothing.
-use Prim.Native.Nat.{ℕ, zero, suc, ◌+◌, ◌≤◌}
-use native.Mathlib.Nat.{add-zero, add-suc, suc-add, not-suc-le-zero, le_refl}
+use Prim.Native.Nat.{ℕ, zero, suc, ◌+◌, ◌-◌, ◌≤◌, ◌<◌}
+use native.Mathlib.Nat.{add-zero, add-suc, suc-add}
 use native.Mathlib.Omega.{arith}
-use mathlib.Core.Path.{◌≡◌, refl, sym, ◌∙◌, ap}
-use mathlib.Core.Bool.{Bool, true, false, ◌||◌, cond}
+use mathlib.Core.Path.{◌≡◌, refl, sym, ◌∙◌, ap, subst}
+use mathlib.Core.Bool.{Bool, true, false, ◌||◌}
 use mathlib.Core.List.{List, [], ◌∷◌, ◌++◌, map, foldl, flatten}
 use mathlib.Core.Option.{none}
 use lib.Dec.{leb, ltb}
-use lib.ListN.{length, take, drop, length-append, length-map, length-drop}
-use lib.Seq.{take-add, take-length, length-take-le}
+use lib.ListN.{length, take, drop, get_or, drop_of_length-le, length-append, length-map, length-drop}
+use lib.Seq.{take-add, take-length, length-take-le, drop-cons, drop-drop, drop-nil}
 use borrow.Author.Tests.{leb-false, ltb-true, ltb-false}
-use Rattle.opcodes.specs.Lists.{All, all_cons}
+use Rattle.opcodes.specs.Lists.{All, go_on_if}
 use Rattle.opcodes.specs.Bytes.{u32s}
-use Rattle.chunk.specs.Table.{Row, rows, below, Proto, proto_of, protos_of, protos}
+use Rattle.chunk.specs.Table.{Row, row_at, rows, below, children, Proto, protos_of, protos}
 use Rattle.chunk.specs.Refusals.{bad_depth}
 use Rattle.verdict.specs.Diagnostics.{Step, tested_step, proto_steps}
 use Rattle.verdict.specs.Walk.{Walk, max_diagnostics, count_n, start, advance, walk_row, walk_from, walk}
 use Rattle.verdict.specs.Image.{Image, image_protos, image_walk}
-use Rattle.verdict.specs.Statements.{Accepted, walk_children, walk_by_children}
-use Rattle.opcodes.proofs.TestLaws.{or-false}
-use Rattle.opcodes.proofs.AllLaws.{all_drop, all_of, all_map}
-use Rattle.chunk.proofs.TableLaws.{below_end, below_next, below_split, length_protos_of}
-use Rattle.chunk.proofs.RefusalLaws.{depth_kept, image_kept}
+use Rattle.verdict.specs.Statements.{Accepted, walk_proto, walk_by_children}
+use Rattle.opcodes.proofs.TestLaws.{or_false}
+use Rattle.opcodes.proofs.AllLaws.{all_at, all_of, all_map}
+use Rattle.chunk.proofs.TableLaws.{length_rows, drop_rows, below_end, below_next, below_split, children_end, children_found, children_deeper, length_protos_of}
+use Rattle.chunk.proofs.RefusalLaws.{DepthKept, depth_kept, image_kept}
 use Rattle.verdict.proofs.WalkLaws.{advance_none}
 
 -- ---- tests of N
@@ -41,7 +41,7 @@ test_twice incoming row v = go (v.ended || leb max_diagnostics (count_n incoming
         → advance incoming row (advance incoming row v (tested_step [])) (tested_step []) ≡ advance incoming row v (tested_step [])
     go true e = advance_ended incoming row (advance incoming row v (tested_step [])) (tested_step []) (rw e)
     go false e =
-        let t = or-false v.ended _ e in
+        let t = or_false v.ended _ e in
         ap (λ (u : Walk). advance incoming row u (tested_step [])) (advance_none incoming row v (tested_step []) t.0 (leb-false max_diagnostics _ t.1) refl)
 
 -- steps that begin with a test
@@ -74,86 +74,248 @@ walk_split incoming row v n m all h =
     ∙ walk_append incoming row v (take n all) (take m (drop n all))
     ∙ ap (λ (k : ℕ). walk_from incoming (row + k) (walk_from incoming row v (take n all)) (take m (drop n all))) (length-take-le n all h)
 
--- ---- by prototypes and their children
+-- ---- rows of which each is at most one deeper than the one before
+
+data Deepens : ℕ → List Row → Type 0 where
+  no_more : {most : ℕ} → Deepens most []
+  deepens : {most : ℕ} {r : Row} {rs : List Row} → r.depth ≤ most → Deepens (suc r.depth) rs → Deepens most (r ∷ rs)
+
+deepens_kept : (least most : ℕ) (rs : List Row) → bad_depth least most rs ≡ none → Deepens most rs
+deepens_kept least most [] e = no_more
+deepens_kept least most (r ∷ rs) e =
+    let k = depth_kept least most r rs e in
+    deepens k.high (deepens_kept 1 (suc r.depth) rs k.later)
+
+deepens_next : {most : ℕ} {r : Row} {rs : List Row} → Deepens most (r ∷ rs) → (r.depth ≤ most) × Deepens (suc r.depth) rs
+deepens_next (deepens h t) = (h, t)
+
+-- past the rows below depth d, the next is of depth d or less
+past_below : (d : ℕ) {most : ℕ} {rs : List Row} → Deepens most rs → Deepens d (drop (length (below d rs)) rs)
+unfolding below
+past_below d no_more = no_more
+past_below d (deepens {most} {r} {rs} h t) = go (ltb d r.depth) refl (past_below d t)
+  where
+    go : (b : Bool) → ltb d r.depth ≡ b → Deepens d (drop (length (below d rs)) rs) → Deepens d (drop (length (go_on_if b r (below d rs))) (r ∷ rs))
+    go true e k = k
+    go false e k = deepens (ltb-false d r.depth e) t
+
+-- and no child of a row of depth d is among the rows below depth d + 1
+children_past : (d : ℕ) (rs : List Row) → children d rs ≡ children d (drop (length (below (suc d) rs)) rs)
+children_past d [] = ap (λ (l : List Row). children d l) (sym (drop-nil (length (below (suc d) []))))
+children_past d (r ∷ rs) = go (ltb (suc d) r.depth) refl (children_past d rs)
+  where
+    go : (b : Bool) → ltb (suc d) r.depth ≡ b → children d rs ≡ children d (drop (length (below (suc d) rs)) rs) → children d (r ∷ rs) ≡ children d (drop (length (below (suc d) (r ∷ rs))) (r ∷ rs))
+    go true e h =
+        let deep = ltb-true (suc d) r.depth e in
+        children_deeper d r rs deep ∙ h ∙ ap (λ (l : List Row). children d (drop (length l) (r ∷ rs))) (sym (below_next (suc d) r rs deep))
+    go false e h = ap (λ (l : List Row). children d (drop (length l) (r ∷ rs))) (sym (below_end (suc d) r rs (ltb-false (suc d) r.depth e)))
 
 no_rows : (d : ℕ) → below d [] ≡ []
 unfolding below
 no_rows d = refl
 
-below_most : (d : ℕ) (rs : List Row) → length (below d rs) ≤ length rs
-unfolding below
-below_most d [] = omega arith
-below_most d (r ∷ rs) = go (ltb d r.depth) refl (below_most d rs)
-  where
-    go : (b : Bool) → ltb d r.depth ≡ b → length (below d rs) ≤ length rs → length (below d (r ∷ rs)) ≤ suc (length rs)
-    go true e h = rw e (omega arith)
-    go false e h = rw e (omega arith)
+no_children : (d : ℕ) → children d [] ≡ []
+unfolding children below
+no_children d = refl
 
-pub children_by_rows : (incoming fuel d : ℕ) (rs : List Row) (all : List (List Step)) (row : ℕ) (v : Walk) → length rs ≤ fuel → length all ≡ length rs → All Begins all
-    → walk_children incoming fuel d rs all row v ≡ walk_from incoming row v (take (length (below d rs)) all)
-unfolding walk_children walk_from
-children_by_rows incoming zero d [] all row v h l b = rw (no_rows d)
-children_by_rows incoming zero d (r ∷ rs) all row v h l b = absurd (not-suc-le-zero h)
-children_by_rows incoming (suc fuel) d [] all row v h l b = rw (no_rows d)
-children_by_rows incoming (suc fuel) d (r ∷ rs) [] row v h l b = absurd (omega arith)
-children_by_rows incoming (suc fuel) d (r ∷ rs) (steps ∷ all) row v h l (all_cons b bs) =
-    go (ltb d r.depth) refl
-    (λ u. children_by_rows incoming fuel r.depth rs all (suc row) u (omega arith) (omega arith) bs)
-    (λ u. children_by_rows incoming fuel d (drop n rs) (drop n all) (suc row + n) u (omega (arith, length-drop n rs)) (omega (arith, length-drop n rs, length-drop n all)) (all_drop n bs))
-  where
-    n : ℕ
-    n = length (below r.depth rs)
-
-    m : ℕ
-    m = length (below d (drop n rs))
-
-    own : Walk
-    own = walk_row incoming row v steps
-
-    go : (c : Bool) → ltb d r.depth ≡ c
-        → ((u : Walk) → walk_children incoming fuel r.depth rs all (suc row) u ≡ walk_from incoming (suc row) u (take n all))
-        → ((u : Walk) → walk_children incoming fuel d (drop n rs) (drop n all) (suc row + n) u ≡ walk_from incoming (suc row + n) u (take m (drop n all)))
-        → cond c (walk_children incoming fuel d (drop n rs) (drop n all) (suc row + n) (walk_children incoming fuel r.depth rs all (suc row) (walk_row incoming row (advance incoming row v (tested_step [])) steps))) v
-        ≡ walk_from incoming row v (take (length (below d (r ∷ rs))) (steps ∷ all))
-    go true e mine rest =
-        let count : length (below d (r ∷ rs)) ≡ suc (n + m) =
-        ap length (below_split d r rs (ltb-true d r.depth e)) ∙ ap suc (length-append (below r.depth rs) (below d (drop n rs))) in
-        rest _
-        ∙ ap (λ (u : Walk). walk_from incoming (suc row + n) u (take m (drop n all))) (mine _ ∙ ap (λ (u : Walk). walk_from incoming (suc row) u (take n all)) (test_before incoming row v b))
-        ∙ sym (walk_split incoming (suc row) own n m all (omega (arith, below_most r.depth rs)))
-        ∙ ap (λ (k : ℕ). walk_from incoming row v (take k (steps ∷ all))) (sym count)
-    go false e mine rest = ap (λ (l : List Row). walk_from incoming row v (take (length l) (steps ∷ all))) (sym (below_end d r rs (ltb-false d r.depth e)))
-
--- ---- an accepted table: all rows after row 0 are below it
-
+-- where each is at least 1 deep, all are below depth 0
 below_all : (most : ℕ) (rs : List Row) → bad_depth 1 most rs ≡ none → below 0 rs ≡ rs
 below_all most [] e = no_rows 0
 below_all most (r ∷ rs) e =
     let k = depth_kept 1 most r rs e in
     below_next 0 r rs k.low ∙ ap (λ (l : List Row). r ∷ l) (below_all (suc r.depth) rs k.later)
 
--- so the walk is row 0's own steps and then its children
-pub walk_by_children_lem : (incoming : ℕ) (r : Row) (rs : List Row) (steps : List Step) (all : List (List Step)) → bad_depth 0 0 (r ∷ rs) ≡ none → length all ≡ length rs → All Begins all
-    → walk incoming (steps ∷ all) ≡ walk_children incoming (length rs) r.depth rs all 1 (walk_row incoming 0 start steps)
-unfolding walk walk_from
-walk_by_children_lem incoming r rs steps all e l b =
-    let k = depth_kept 0 0 r rs e in
-    let first : r.depth ≡ 0 = omega arith in
-    let deep : below r.depth rs ≡ rs = ap (λ (d : ℕ). below d rs) first ∙ below_all (suc r.depth) rs k.later in
-    sym (
-    children_by_rows incoming (length rs) r.depth rs all 1 (walk_row incoming 0 start steps) (le_refl (length rs)) l b
-    ∙ ap (λ (n : ℕ). walk_from incoming 1 (walk_row incoming 0 start steps) (take n all)) (ap length deep ∙ sym l)
-    ∙ ap (walk_from incoming 1 (walk_row incoming 0 start steps)) (take-length all)
-    )
+below_most : (d : ℕ) (rs : List Row) → length (below d rs) ≤ length rs
+unfolding below
+below_most d [] = omega arith
+below_most d (r ∷ rs) = go (ltb d r.depth) (below_most d rs)
+  where
+    go : (b : Bool) → length (below d rs) ≤ length rs → length (go_on_if b r (below d rs)) ≤ suc (length rs)
+    go true h = omega arith
+    go false h = omega arith
 
--- of an image: row r with the rows after it
-pub image_by_children : (i : Image) (r : Row) (rs : List Row) → Accepted i → rows i.table ≡ r ∷ rs
-    → image_walk i ≡ walk_by_children i r rs
-unfolding Accepted image_walk image_protos protos protos_of walk_by_children
-image_by_children i r rs a e =
+-- ---- by prototypes and their children: of a table, and the steps of each of its rows
+
+module _ (incoming : ℕ) (table : List ℕ) (all : List (List Step)) (same : length all ≡ length (rows table)) (tested : All Begins all) where
+  abbrev rs : List Row
+  rs = rows table
+
+  -- a child, after the test before it
+  child : ℕ → Walk → Row → Walk
+  child fuel u c = walk_proto incoming rs all fuel c (advance incoming c.row u (tested_step []))
+
+  -- its own steps, and its children
+  proto_unfolds : (fuel k : ℕ) (v : Walk)
+      → walk_proto incoming rs all (suc fuel) (row_at table k) v ≡ foldl (child fuel) (walk_row incoming k v (get_or all k [])) (children (row_at table k).depth (drop (suc k) rs))
+  unfolding walk_proto row_at child
+  proto_unfolds fuel k v = refl
+
+  -- as the rows below it are walked, one after the other, so are the children of a row of depth d, when the rows after it begin at row k
+  ByRows : ℕ → ℕ → ℕ → Walk → Type 0
+  ByRows fuel d k u = foldl (child fuel) u (children d (drop k rs)) ≡ walk_from incoming k u (take (length (below d (drop k rs))) (drop k all))
+
+  -- no child, and no row below
+  none_left : (fuel d k : ℕ) (u : Walk) → children d (drop k rs) ≡ [] → below d (drop k rs) ≡ [] → ByRows fuel d k u
+  unfolding ByRows walk_from
+  none_left fuel d k u c b = ap (foldl (child fuel) u) c ∙ ap (λ (l : List Row). walk_from incoming k u (take (length l) (drop k all))) (sym b)
+
+  no_row : (fuel d k : ℕ) (u : Walk) → length rs ≤ k → ByRows fuel d k u
+  no_row fuel d k u h =
+      let e : drop k rs ≡ [] = drop_of_length-le rs h in
+      none_left fuel d k u (ap (children d) e ∙ no_children d) (ap (below d) e ∙ no_rows d)
+
+  -- the rows past row k and those below it
+  past : ℕ → ℕ
+  past k = suc k + length (below (row_at table k).depth (drop (suc k) rs))
+
+  -- row k is a child: its own steps, its children and then the rest
+  next_child : (fuel d k : ℕ) (u : Walk) → k < length rs → (row_at table k).depth ≡ suc d
+      → ((v : Walk) → ByRows fuel (row_at table k).depth (suc k) v) → ((v : Walk) → ByRows (suc fuel) d (past k) v) → ByRows (suc fuel) d k u
+  unfolding ByRows walk_from child row_at past
+  next_child fuel d k u h deep its rest =
+      ap (foldl (child (suc fuel)) u) kids
+      ∙ ap (λ (v : Walk). foldl (child (suc fuel)) v (children d (drop (suc k + n) rs))) first
+      ∙ rest _
+      ∙ ap (λ (l : List (List Step)). walk_from incoming (suc k + n) (walk_from incoming (suc k) own (take n more)) (take m l)) (sym (drop-drop n (suc k) all))
+      ∙ sym (walk_split incoming (suc k) own n m more (omega (arith, below_most r.depth later, length-drop (suc k) rs, length-drop (suc k) all)))
+      ∙ ap (λ (j : ℕ). walk_from incoming k u (take j (steps ∷ more))) (sym count)
+      ∙ ap (λ (l : List (List Step)). walk_from incoming k u (take (length (below d (drop k rs))) l)) (sym (drop-cons all k [] there))
+    where
+      r : Row
+      r = row_at table k
+
+      later : List Row
+      later = drop (suc k) rs
+
+      n : ℕ
+      n = length (below r.depth later)
+
+      m : ℕ
+      m = length (below d (drop (suc k + n) rs))
+
+      steps : List Step
+      steps = get_or all k []
+
+      more : List (List Step)
+      more = drop (suc k) all
+
+      own : Walk
+      own = walk_row incoming k u steps
+
+      there : k < length all
+      there = omega arith
+
+      row : drop k rs ≡ r ∷ later
+      row = drop_rows table k (omega (arith, length_rows table))
+
+      kids : children d (drop k rs) ≡ r ∷ children d (drop (suc k + n) rs)
+      kids =
+          ap (children d) row
+          ∙ children_found d r later deep
+          ∙ ap (λ (l : List Row). r ∷ l)
+          (children_past d later ∙ ap (λ (x : ℕ). children d (drop (length (below x later)) later)) (sym deep) ∙ ap (children d) (drop-drop n (suc k) rs))
+
+      count : length (below d (drop k rs)) ≡ suc (n + m)
+      count =
+          ap (λ (l : List Row). length (below d l)) row
+          ∙ ap length (below_split d r later (omega arith))
+          ∙ ap suc (length-append (below r.depth later) (below d (drop n later)) ∙ ap (λ (l : List Row). n + length (below d l)) (drop-drop n (suc k) rs))
+
+      first : child (suc fuel) u r ≡ walk_from incoming (suc k) own (take n more)
+      first =
+          proto_unfolds fuel k (advance incoming k u (tested_step []))
+          ∙ its _
+          ∙ ap (λ (v : Walk). walk_from incoming (suc k) v (take n more)) (test_before incoming k u (all_at k [] there tested))
+
+  -- row k is at most one deeper than depth d: so it is a child, or no child is left
+  at_row : (fuel d k : ℕ) (u : Walk) → k < length rs → Deepens (suc d) (drop k rs)
+      → ((v : Walk) → Deepens (suc (row_at table k).depth) (drop (suc k) rs) → ByRows fuel (row_at table k).depth (suc k) v)
+      → ((v : Walk) → Deepens (suc d) (drop (past k) rs) → ByRows (suc fuel) d (past k) v)
+      → ByRows (suc fuel) d k u
+  unfolding past
+  at_row fuel d k u h t its rest = go (ltb d r.depth) refl
+    where
+      r : Row
+      r = row_at table k
+
+      later : List Row
+      later = drop (suc k) rs
+
+      row : drop k rs ≡ r ∷ later
+      row = drop_rows table k (omega (arith, length_rows table))
+
+      next : (r.depth ≤ suc d) × Deepens (suc r.depth) later
+      next = deepens_next (subst (Deepens (suc d)) row t)
+
+      go : (b : Bool) → ltb d r.depth ≡ b → ByRows (suc fuel) d k u
+      go false e =
+          let end = ltb-false d r.depth e in
+          none_left (suc fuel) d k u (ap (children d) row ∙ children_end d r later end) (ap (below d) row ∙ below_end d r later end)
+      go true e =
+          let lt = ltb-true d r.depth e in
+          let deep : r.depth ≡ suc d = omega (arith, next.0) in
+          next_child fuel d k u h deep (λ v. its v next.1)
+          (λ v. rest v (subst (Deepens (suc d)) (drop-drop (length (below r.depth later)) (suc k) rs) (subst (λ (x : ℕ). Deepens x (drop (length (below r.depth later)) later)) deep (past_below r.depth next.1))))
+
+  past_next : (k : ℕ) → suc k ≤ past k
+  unfolding past
+  past_next k = omega arith
+
+  -- m is at least the number of rows from k on, and so is the fuel
+  siblings : (fuel : ℕ) → ((d k : ℕ) (v : Walk) → length rs ≤ k + fuel → Deepens (suc d) (drop k rs) → ByRows fuel d k v)
+      → (m d k : ℕ) (u : Walk) → length rs ≤ k + m → length rs ≤ k + suc fuel → Deepens (suc d) (drop k rs) → ByRows (suc fuel) d k u
+  siblings fuel its zero d k u h f t = no_row (suc fuel) d k u (omega arith)
+  siblings fuel its (suc m) d k u h f t = go (ltb k (length rs)) refl (siblings fuel its m d (past k))
+    where
+      go : (b : Bool) → ltb k (length rs) ≡ b
+          → ((v : Walk) → length rs ≤ past k + m → length rs ≤ past k + suc fuel → Deepens (suc d) (drop (past k) rs) → ByRows (suc fuel) d (past k) v)
+          → ByRows (suc fuel) d k u
+      go false e rest = no_row (suc fuel) d k u (ltb-false k (length rs) e)
+      go true e rest =
+          at_row fuel d k u (ltb-true k (length rs) e) t
+          (λ v. its (row_at table k).depth (suc k) v (omega arith))
+          (λ v. rest v (omega (arith, past_next k)) (omega (arith, past_next k)))
+
+  by_rows : (fuel d k : ℕ) (u : Walk) → length rs ≤ k + fuel → Deepens (suc d) (drop k rs) → ByRows fuel d k u
+  by_rows zero d k u f t = no_row zero d k u (omega arith)
+  by_rows (suc fuel) d k u f t = siblings fuel (by_rows fuel) (suc fuel) d k u f f t
+
+  -- Row 0 has depth 0 and all later rows are below it: so the walk is its own steps and then its children
+  walk_by_children_lem : bad_depth 0 0 rs ≡ none → (fuel : ℕ) → length rs ≡ suc fuel → walk incoming all ≡ walk_proto incoming rs all (suc fuel) (row_at table 0) start
+  unfolding walk walk_from ByRows
+  walk_by_children_lem e fuel l =
+      sym (
+      proto_unfolds fuel 0 start
+      ∙ by_rows fuel r.depth 1 own (omega arith) (deepens_kept 1 (suc r.depth) later k.later)
+      ∙ ap (λ (n : ℕ). walk_from incoming 1 own (take n (drop 1 all))) (ap length deep ∙ count)
+      ∙ ap (walk_from incoming 1 own) (take-length (drop 1 all))
+      ∙ ap (walk_from incoming 0 start) (sym (drop-cons all 0 [] (omega arith)))
+      )
+    where
+      r : Row
+      r = row_at table 0
+
+      later : List Row
+      later = drop 1 rs
+
+      own : Walk
+      own = walk_row incoming 0 start (get_or all 0 [])
+
+      k : DepthKept 0 0 r later
+      k = depth_kept 0 0 r later (subst (λ (l : List Row). bad_depth 0 0 l ≡ none) (drop_rows table 0 (omega (arith, length_rows table))) e)
+
+      deep : below r.depth later ≡ later
+      deep = let first : r.depth ≡ 0 = omega (arith, k.high) in ap (λ (d : ℕ). below d later) first ∙ below_all (suc r.depth) later k.later
+
+      count : length later ≡ length (drop 1 all)
+      count = omega (arith, length-drop 1 rs, length-drop 1 all)
+
+-- of an accepted image
+pub image_by_children : (i : Image) → Accepted i → image_walk i ≡ walk_by_children i
+unfolding Accepted image_walk image_protos protos walk_by_children
+image_by_children i a =
     let kept = image_kept i.table i.words a in
-    let depths : bad_depth 0 0 (r ∷ rs) ≡ none = ap (bad_depth 0 0) (sym e) ∙ kept.depths in
-    let later = protos_of rs (drop r.words (u32s i.words)) in
-    ap (λ (l : List Row). walk (i.warnings + i.errors) (map proto_steps (protos_of l (u32s i.words)))) e
-    ∙ walk_by_children_lem (i.warnings + i.errors) r rs (proto_steps (proto_of r rs (u32s i.words))) (map proto_steps later) depths
-    (length-map later proto_steps ∙ length_protos_of rs (drop r.words (u32s i.words))) (all_map Begins proto_steps (all_of proto_begins later))
+    let ps = protos_of (rows i.table) (u32s i.words) in
+    let count : length (rows i.table) ≡ suc (length (rows i.table) - 1) = omega (arith, length_rows i.table, kept.some_row, kept.whole_rows) in
+    walk_by_children_lem (i.warnings + i.errors) i.table (map proto_steps ps) (length-map ps proto_steps ∙ length_protos_of (rows i.table) (u32s i.words)) (all_map Begins proto_steps (all_of proto_begins ps)) kept.depths (length (rows i.table) - 1) count
+    ∙ ap (λ (fuel : ℕ). walk_proto (i.warnings + i.errors) (rows i.table) (map proto_steps ps) fuel (row_at i.table 0) start) (sym count)

@@ -18,7 +18,7 @@ use Rattle.verdict.specs.Walk.{RowDiagnostic, in_row, max_diagnostics, Walk, sta
 use Rattle.verdict.specs.Image.{Image, image_protos, image_walk, diagnostics, verdict}
 use Rattle.verdict.specs.Statements.{large_stacks, IsError}
 use Rattle.opcodes.proofs.AllLaws.{all_append, all_left, all_right, all_head, all_tail, flatten_all, map_all, all_map, flat_map_all, flat_map_none, up_to_all, all_of, all_imp}
-use Rattle.opcodes.proofs.TestLaws.{true≢false, or-false, by_or}
+use Rattle.opcodes.proofs.TestLaws.{true≢false, or_false, by_or}
 use Rattle.verdict.proofs.RuleLaws.{Warns, clean_well_formed, no_truncation, no_diagnostics}
 
 abbrev RowWarns : RowDiagnostic → Type 0
@@ -41,7 +41,7 @@ advance_clean incoming row v s = go (v.ended || s.tested && leb max_diagnostics 
         → Clean (cond b (record { found = v.found; ended = true }) (record { found = v.found ++ map (in_row row) s.adds; ended = false })) → Clean v × CleanStep s
     go true e c = true≢false c.going
     go false e c =
-        (record { going = (or-false v.ended _ e).0; warns = all_left v.found _ c.warns }, map_all RowWarns (in_row row) s.adds (all_right v.found c.warns))
+        (record { going = (or_false v.ended _ e).0; warns = all_left v.found _ c.warns }, map_all RowWarns (in_row row) s.adds (all_right v.found c.warns))
 
 steps_clean : (incoming row : ℕ) (v : Walk) (ss : List Step) → Clean (foldl (advance incoming row) v ss) → Clean v × All CleanStep ss
 steps_clean incoming row v [] c = (c, all_nil)
@@ -203,7 +203,7 @@ valid_well_formed i e =
     let v = image_walk i in
     let ps = image_protos i in
     let t = valid_tests (has_errors i.errors v) (limit_reached (i.warnings + i.errors) v) e in
-    let c : Clean v = record { going = (or-false v.ended _ t.1).0; warns = no_error v.found (or-false (ltb 0 i.errors) _ t.0).1 } in
+    let c : Clean v = record { going = (or_false v.ended _ t.1).0; warns = no_error v.found (or_false (ltb 0 i.errors) _ t.0).1 } in
     all_imp proto_clean (map_all (All CleanStep) proto_steps ps (walk_clean (i.warnings + i.errors) 0 start (map proto_steps ps) c).1)
 
 -- and the other way, with no error that came in and fewer warnings than the limit, those of the stacks included

@@ -5,7 +5,7 @@ use Rattle.opcodes.specs.Lists.{only, up_from, select}
 use Rattle.opcodes.specs.Words.{opcode, is, B, C, CLOSURE}
 use Rattle.chunk.specs.Table.{Proto}
 use Rattle.chunk.specs.Roles.{role_at, is_executable, word_at, executable_at, owned, is_truncated, binding_words}
-use Rattle.verdict.specs.Operands.{is_unknown, is_binding, is_jump, target, is_skip, skip_target, constant_bx, upvalue_b, flag_a, register_a, span_ends, register_in, constant_in, child_bx, captured_register, captured_upvalue}
+use Rattle.verdict.specs.Operands.{is_unknown, is_binding, is_jump, target, is_skip, skip_target, constant_bx, upvalue_b, flag_a, flag_limit, register_a, span_ends, register_in, constant_in, child_bx, captured_register, captured_upvalue}
 
 -- a diagnostic (the document's finding) but for its row; `code` is the number in the document's table
 pub record Diagnostic : Type 0 where
@@ -29,9 +29,13 @@ truncation_at p pc =
     only (is_truncated p pc)
     (cond (is (word_at p pc) (CLOSURE ∷ [])) (diagnostic pc 1 (pos (owned p pc))) (diagnostic pc 2 (pos 0)))
 
--- "stack above 250"
+-- "stack above 250": the largest stack without a warning
+abbrev pub usual_stack : ℕ
+usual_stack = 250
+
+-- a larger one
 unfoldable pub has_large_stack : Proto → Bool
-has_large_stack p = ltb 250 p.stack
+has_large_stack p = ltb usual_stack p.stack
 
 -- code 3, "place -1"
 unfoldable pub stack_diagnostics : Proto → List Diagnostic
@@ -67,7 +71,7 @@ operand_diagnostics p pc w =
     flatten (
     not_below pc 7 p.constants (constant_bx w)
     ∷ not_below pc 8 p.upvalues (upvalue_b w)
-    ∷ not_below pc 9 2 (flag_a w)
+    ∷ not_below pc 9 flag_limit (flag_a w)
     ∷ not_below pc 10 p.stack (register_a w)
     ∷ not_below pc 11 p.stack (span_ends w)
     ∷ not_below pc 12 p.stack (register_in B w)

@@ -110,9 +110,17 @@ more_examples =
     -- a TFORLOOP whose last register is 3; an ADD of register 5 and constant 0, the register first
     ∷ word 0x00004021 3 (row0 0 11 (pos 3)) Invalid
     ∷ word 0x8001400c 2 (row0 0 13 (pos 5) ++ row0 0 14 (pos 0)) Invalid
+    -- the last known opcode: a VARARG of one register, and one whose last register is 2
+    ∷ word 0x01000025 2 [] ValidForParser
+    ∷ word 0x02000025 2 (row0 0 11 (pos 2)) Invalid
     -- a CLOSURE without its child, and N at 10,000 after a stack warning, which nothing tests
     ∷ word 0x00004024 2 (row0 0 16 (pos 1)) Invalid
     ∷ empty 251 9999 0 (pos 0 ∷ negsuc 0 ∷ pos 3 ∷ pos 251 ∷ []) ValidForParser
+    -- rows nested: a child, its child and a second child, each with a word of an unknown opcode
+    ∷ example (row 0 1 0 0 2 ++ row 1 1 0 0 2 ++ row 2 1 0 0 2 ++ row 1 1 0 0 2) (0x0000003f ∷ 0x0000003e ∷ 0x0000003d ∷ 0x0000003c ∷ []) 0 0
+    (row0 0 4 (pos 63) ++ (pos 1 ∷ pos 0 ∷ pos 4 ∷ pos 62 ∷ []) ++ (pos 2 ∷ pos 0 ∷ pos 4 ∷ pos 61 ∷ []) ++ pos 3 ∷ pos 0 ∷ pos 4 ∷ pos 60 ∷ []) [] Invalid
+    -- the limit before a child
+    ∷ example (row 0 1 0 0 2 ++ row 1 1 0 0 2) (0x0000003f ∷ 0x0000003f ∷ []) 9999 0 (row0 0 4 (pos 63)) [] Invalid
     -- N at 10,000 after a truncation: the stack warning still comes, and the word no more
     ∷ example (row 0 1 0 0 251) (0x00803fe2 ∷ []) 9999 0 (row0 0 2 (pos 0) ++ pos 0 ∷ negsuc 0 ∷ pos 3 ∷ pos 251 ∷ []) [] Invalid
     ∷ []
@@ -125,44 +133,117 @@ pub record RunExample : Type 0 where
   pub choices : List Bool
   pub expected : Trace
 
--- of these words, with one child of one upvalue
+-- of these words, with a child of one upvalue and a child of two
 abbrev run_of : List ℕ → List Bool → List ℕ → Exit → RunExample
 run_of code choices met exit =
     record {
-      proto = record { code = code; constants = 0; upvalues = 0; stack = 2; children = 1 ∷ [] };
+      proto = record { code = code; constants = 0; upvalues = 0; stack = 2; children = 1 ∷ 2 ∷ [] };
       choices = choices;
       expected = record { met = met; exit = exit };
     }
 
--- a word before two RETURNs, and the pc that it goes to
+-- a word before two RETURNs, and the pc that it goes to on one choice
 abbrev goes : ℕ → Bool → ℕ → RunExample
 goes w choice pc = run_of (w ∷ 0x0080001e ∷ 0x0080001e ∷ []) (choice ∷ []) (0 ∷ pc ∷ []) out_of_choices
 
-unfoldable pub run_examples : List RunExample
-run_examples =
-    -- no words; a RETURN with choices to spare, and with none
-    run_of [] (true ∷ []) [] (no_word_at (pos 0))
-    ∷ run_of (0x0080001e ∷ []) (true ∷ true ∷ []) (0 ∷ []) (ended_at 0)
-    ∷ run_of (0x0080001e ∷ []) [] (0 ∷ []) out_of_choices
-    -- JMP and FORPREP go to their target; FORLOOP there or on
+-- or where its run ends
+abbrev ends : ℕ → Bool → RunExample
+ends w choice = run_of (w ∷ 0x0080001e ∷ 0x0080001e ∷ []) (choice ∷ []) (0 ∷ []) (ended_at 0)
+
+-- a word alone, and the place without a word that it goes to on one choice
+abbrev leaves : ℕ → Bool → ℤ → RunExample
+leaves w choice z = run_of (w ∷ []) (choice ∷ []) (0 ∷ []) (no_word_at z)
+
+-- each kind of word, with both choices
+unfoldable pub word_runs : List RunExample
+word_runs =
+    -- JMP and FORPREP go to their target
+    goes 0x80000016 true 2
     ∷ goes 0x80000016 false 2
+    ∷ goes 0x80000020 true 2
     ∷ goes 0x80000020 false 2
+    -- FORLOOP there or to the next word
     ∷ goes 0x8000001f true 2
     ∷ goes 0x8000001f false 1
-    -- EQ skips or goes on; LOADBOOL with C not 0 only skips, and with C = 0 goes on
+    -- EQ, LT, LE, TEST, TESTSET, TFORLOOP skip a word or go on
     ∷ goes 0x00000017 true 2
     ∷ goes 0x00000017 false 1
-    ∷ goes 0x00004002 false 2
+    ∷ goes 0x00000018 true 2
+    ∷ goes 0x00000018 false 1
+    ∷ goes 0x00000019 true 2
+    ∷ goes 0x00000019 false 1
+    ∷ goes 0x0000001a true 2
+    ∷ goes 0x0000001a false 1
+    ∷ goes 0x0000001b true 2
+    ∷ goes 0x0000001b false 1
+    ∷ goes 0x00000021 true 2
+    ∷ goes 0x00000021 false 1
+    -- LOADBOOL with C = 0 goes on; with C = 1 and 256 it only skips
     ∷ goes 0x00000002 true 1
-    -- CLOSURE and SETLIST go past their companions
+    ∷ goes 0x00000002 false 1
+    ∷ goes 0x00004002 true 2
+    ∷ goes 0x00004002 false 2
+    ∷ goes 0x00400002 true 2
+    ∷ goes 0x00400002 false 2
+    -- CLOSURE goes past its child's companion, and without its child to the next word
     ∷ goes 0x00000024 true 2
+    ∷ goes 0x00000024 false 2
+    ∷ goes 0x00008024 true 1
+    ∷ goes 0x00008024 false 1
+    -- SETLIST with C = 0 goes past its companion, with C = 1 to the next word
     ∷ goes 0x00000022 true 2
-    -- TAILCALL ends or goes on
-    ∷ run_of (0x0000001d ∷ 0x0080001e ∷ []) (true ∷ []) (0 ∷ []) (ended_at 0)
+    ∷ goes 0x00000022 false 2
+    ∷ goes 0x00004022 true 1
+    ∷ goes 0x00004022 false 1
+    -- RETURN ends; TAILCALL ends or goes on
+    ∷ ends 0x0080001e true
+    ∷ ends 0x0080001e false
+    ∷ ends 0x0000001d true
+    ∷ goes 0x0000001d false 1
+    -- an ordinary word, and an unknown opcode, go on
+    ∷ goes 0x00000000 true 1
+    ∷ goes 0x00000000 false 1
+    ∷ goes 0x0000003f true 1
+    ∷ goes 0x0000003f false 1
+    ∷ []
+
+-- how a run begins, how long it goes on and where it leaves
+unfoldable pub run_examples : List RunExample
+run_examples =
+    -- no words, with choices and without
+    run_of [] (true ∷ []) [] (no_word_at (pos 0))
+    ∷ run_of [] [] [] (no_word_at (pos 0))
+    -- a list that gives out at once, and after a step
+    ∷ run_of (0x0080001e ∷ []) [] (0 ∷ []) out_of_choices
+    ∷ run_of (0x00000000 ∷ 0x0080001e ∷ []) (true ∷ []) (0 ∷ 1 ∷ []) out_of_choices
+    -- a longer list than the run: it ended, or left
+    ∷ run_of (0x0080001e ∷ []) (true ∷ true ∷ false ∷ []) (0 ∷ []) (ended_at 0)
+    ∷ run_of (0x00000000 ∷ []) (false ∷ true ∷ true ∷ []) (0 ∷ []) (no_word_at (pos 1))
+    -- a loop: FORPREP to FORLOOP, twice back and then out
+    ∷ run_of (0x80000020 ∷ 0x00000000 ∷ 0x7fff401f ∷ 0x0080001e ∷ []) (true ∷ true ∷ true ∷ true ∷ true ∷ false ∷ true ∷ []) (0 ∷ 2 ∷ 1 ∷ 2 ∷ 1 ∷ 2 ∷ 3 ∷ []) (ended_at 3)
+    -- TAILCALL that goes on, and then RETURN
     ∷ run_of (0x0000001d ∷ 0x0080001e ∷ []) (false ∷ true ∷ []) (0 ∷ 1 ∷ []) (ended_at 1)
-    -- others go on, and leave past the last word; a jump leaves to before the first
-    ∷ run_of (0x00000000 ∷ []) (true ∷ []) (0 ∷ []) (no_word_at (pos 1))
-    ∷ run_of (0x7fff4016 ∷ []) (true ∷ []) (0 ∷ []) (no_word_at (negsuc 0))
-    -- a jump to a companion that looks like CLOSURE: it owns nothing
+    -- a target before the first word: of JMP, FORPREP, and FORLOOP on one choice
+    ∷ leaves 0x7fff4016 true (negsuc 0)
+    ∷ leaves 0x7fff4020 false (negsuc 0)
+    ∷ leaves 0x7fff401f true (negsuc 0)
+    ∷ leaves 0x7fff401f false (pos 1)
+    ∷ leaves 0x00000016 true (negsuc 131069)
+    -- past the last word: a word that goes on, a target, a skip
+    ∷ leaves 0x00000000 true (pos 1)
+    ∷ leaves 0x7fffc016 true (pos 1)
+    ∷ leaves 0xffffc016 true (pos 131073)
+    ∷ leaves 0x00000017 true (pos 2)
+    ∷ leaves 0x00000017 false (pos 1)
+    ∷ leaves 0x00004002 false (pos 2)
+    -- a truncated owner goes past the companions that exist: a SETLIST without its one, a CLOSURE without any and with one of two
+    ∷ leaves 0x00000022 true (pos 1)
+    ∷ leaves 0x00000024 true (pos 1)
+    ∷ run_of (0x00004024 ∷ 0x00000000 ∷ []) (true ∷ []) (0 ∷ []) (no_word_at (pos 2))
+    -- one that is not truncated, at the end
+    ∷ run_of (0x00000024 ∷ 0x00000000 ∷ []) (true ∷ []) (0 ∷ []) (no_word_at (pos 2))
+    ∷ run_of (0x00004024 ∷ 0x00000000 ∷ 0x00000000 ∷ 0x0080001e ∷ []) (true ∷ true ∷ []) (0 ∷ 3 ∷ []) (ended_at 3)
+    -- a jump to a companion: it goes by its bits, and owns nothing, as one that looks like CLOSURE
+    ∷ run_of (0x80000016 ∷ 0x00000022 ∷ 0x0080001e ∷ []) (true ∷ true ∷ []) (0 ∷ 2 ∷ []) (ended_at 2)
     ∷ run_of (0x80000016 ∷ 0x00000024 ∷ 0x00000024 ∷ 0x0080001e ∷ []) (true ∷ true ∷ true ∷ []) (0 ∷ 2 ∷ 3 ∷ []) (ended_at 3)
     ∷ []

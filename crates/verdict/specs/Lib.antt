@@ -3,6 +3,7 @@ pub mod Diagnostics
 pub mod Walk
 pub mod Image
 pub mod Check
+pub mod Records
 pub mod Rules
 pub mod Executions
 pub mod Statements

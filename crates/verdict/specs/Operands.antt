@@ -23,9 +23,13 @@ target pc w = pos (pc + 1) +ℤ field_sbx w
 unfoldable pub is_loadbool_skip : ℕ → Bool
 is_loadbool_skip w = is w (LOADBOOL ∷ []) && ltb 0 (operand C w)
 
+-- the words that skip or go on: "EQ, LT, LE, TEST, TESTSET, TFORLOOP"
+abbrev pub conditional_skips : List ℕ
+conditional_skips = EQ ∷ LT ∷ LE ∷ TEST ∷ TESTSET ∷ TFORLOOP ∷ []
+
 -- "A skip goes to place + 2: EQ, LT, LE, TEST, TESTSET, TFORLOOP, and LOADBOOL with C not 0"
 unfoldable pub is_skip : ℕ → Bool
-is_skip w = is w (EQ ∷ LT ∷ LE ∷ TEST ∷ TESTSET ∷ TFORLOOP ∷ []) || is_loadbool_skip w
+is_skip w = is w conditional_skips || is_loadbool_skip w
 
 -- the pc that it skips to
 unfoldable pub skip_target : ℕ → ℕ
@@ -40,6 +44,10 @@ constant_bx w = only (is w (LOADK ∷ GETGLOBAL ∷ SETGLOBAL ∷ [])) (field_bx
 -- "GETUPVAL, SETUPVAL: B"
 unfoldable pub upvalue_b : ℕ → List ℕ
 upvalue_b w = only (is w (GETUPVAL ∷ SETUPVAL ∷ [])) (operand B w)
+
+-- "EQ, LT, LE: A above 1": a comparison's flag is below this
+abbrev pub flag_limit : ℕ
+flag_limit = 2
 
 -- "EQ, LT, LE: A": a comparison's flag
 unfoldable pub flag_a : ℕ → List ℕ

@@ -6,7 +6,7 @@ use Rattle.opcodes.specs.Lists.{All}
 use Rattle.opcodes.specs.Words.{B, C}
 use Rattle.chunk.specs.Table.{Proto}
 use Rattle.chunk.specs.Roles.{Executable, is_executable, role_at, word_at, is_truncated, binding_words}
-use Rattle.verdict.specs.Operands.{is_unknown, is_binding, is_jump, target, is_skip, skip_target, constant_bx, upvalue_b, flag_a, register_a, span_ends, register_in, constant_in, child_bx, captured_register, captured_upvalue}
+use Rattle.verdict.specs.Operands.{is_unknown, is_binding, is_jump, target, is_skip, skip_target, constant_bx, upvalue_b, flag_a, flag_limit, register_a, span_ends, register_in, constant_in, child_bx, captured_register, captured_upvalue}
 
 -- each of some operands is below the limit
 abbrev pub Below : ℕ → List ℕ → Type 0
@@ -25,13 +25,13 @@ pub record CapturesInRange (p : Proto) (w : ℕ) : Type 0 where
   pub register : Below p.stack (captured_register w)
   pub upvalue : Below p.upvalues (captured_upvalue w)
 
--- "Inside": all operands that the word at pc names are in range, those that a CLOSURE's companions name among them
-pub record OperandsInRange (p : Proto) (pc : ℕ) : Type 0 where
-  pub register : Below p.stack (registers_of (word_at p pc))
-  pub constant : Below p.constants (constants_of (word_at p pc))
-  pub upvalue : Below p.upvalues (upvalue_b (word_at p pc))
-  pub child : Below (length p.children) (child_bx (word_at p pc))
-  pub captures : (j : ℕ) → j < binding_words p pc → CapturesInRange p (word_at p (pc + 1 + j))
+-- "Inside": all operands that the word at a pc names are in range, those that a CLOSURE's companions name among them
+pub record OperandsInRange (p : Proto) (word_pc : ℕ) : Type 0 where
+  pub register : Below p.stack (registers_of (word_at p word_pc))
+  pub constant : Below p.constants (constants_of (word_at p word_pc))
+  pub upvalue : Below p.upvalues (upvalue_b (word_at p word_pc))
+  pub child : Below (length p.children) (child_bx (word_at p word_pc))
+  pub captures : (j : ℕ) → j < binding_words p word_pc → CapturesInRange p (word_at p (word_pc + 1 + j))
 
 -- a jump's target is an executable word
 abbrev pub Lands : Proto → ℤ → Type 0
@@ -61,7 +61,7 @@ pub record RulesAt (p : Proto) (pc : ℕ) : Type 0 where
   -- 8
   pub upvalue : Below p.upvalues (upvalue_b (word_at p pc))
   -- 9
-  pub flag : Below 2 (flag_a (word_at p pc))
+  pub flag : Below flag_limit (flag_a (word_at p pc))
   -- 10 to 13
   pub register : Below p.stack (registers_of (word_at p pc))
   -- 16

@@ -1,20 +1,20 @@
 -- Terms that proofs/Theorems uses beside document 01's definitions. Assumes nothing: these are definitions.
-use Rattle.std.specs.Prelude.{ℕ, zero, suc, ◌+◌, ◌≤◌, ◌<◌, ◌≡◌, ◌≢◌, ◌↔◌, ◌⊎◌, Bool, not, cond, T, ltb, length, drop}
-use mathlib.Core.List.{List, [], ◌∷◌, map, flat_map, flatten}
+use Rattle.std.specs.Prelude.{ℕ, zero, suc, ◌+◌, ◌*◌, ◌≤◌, ◌<◌, ◌≡◌, ◌≢◌, ◌↔◌, ◌⊎◌, Bool, true, false, not, ◌||◌, T, length, get_or, drop, ℤ, pos, negsuc}
+use mathlib.Core.List.{List, [], ◌∷◌, ◌++◌, map, foldl, flat_map, flatten}
 use Rattle.std.proofs.Math.Option.{none}
-use Rattle.opcodes.specs.Lists.{All, Some, select, up_from}
-use Rattle.opcodes.specs.Words.{B, C}
-use Rattle.opcodes.specs.Bytes.{u32s}
-use Rattle.chunk.specs.Table.{Row, below, Proto, proto_of, protos_of}
-use Rattle.chunk.specs.Roles.{word_at, is_truncated, binding_words}
-use Rattle.chunk.specs.Refusals.{image_refusal}
-use Rattle.verdict.specs.Operands.{is_unknown, constant_bx, upvalue_b, flag_a, register_a, span_ends, register_in, constant_in, child_bx}
-use Rattle.verdict.specs.Diagnostics.{has_large_stack, truncation_at, opcode_diagnostics, jump_diagnostics, skip_diagnostics, not_below, binding_diagnostics, Step, tested_step, proto_steps}
-use Rattle.verdict.specs.Walk.{RowDiagnostic, max_diagnostics, Walk, start, advance, walk_row, ValidForParser, Invalid}
+use Rattle.opcodes.specs.Lists.{All, Some, elem, select, up_from}
+use Rattle.opcodes.specs.Words.{B, C, is, JMP, FORPREP, FORLOOP, RETURN, TAILCALL, CLOSURE, SETLIST}
+use Rattle.chunk.specs.Table.{Row, row_at, rows, children, Proto, protos}
+use Rattle.chunk.specs.Roles.{word_at, companions, is_truncated, binding_words, roles, role_bytes, records_of}
+use Rattle.chunk.specs.Refusals.{Refused, image_refusal, word_total}
+use Rattle.chunk.specs.Calls.{roles_after}
+use Rattle.verdict.specs.Operands.{is_unknown, target, is_loadbool_skip, conditional_skips, constant_bx, upvalue_b, flag_a, flag_limit, register_a, span_ends, register_in, constant_in, child_bx}
+use Rattle.verdict.specs.Diagnostics.{Diagnostic, has_large_stack, truncation_at, opcode_diagnostics, jump_diagnostics, skip_diagnostics, not_below, binding_diagnostics, Step, tested_step, proto_steps}
+use Rattle.verdict.specs.Walk.{RowDiagnostic, max_diagnostics, most_diagnostics, Walk, start, advance, walk_row, ValidForParser, Invalid}
 use Rattle.verdict.specs.Image.{Image, image_protos, diagnostics, verdict}
 use Rattle.verdict.specs.Check.{Checked}
 use Rattle.verdict.specs.Rules.{Below, registers_of, constants_of, JumpKept, BindingKept, WellFormed}
-use Rattle.verdict.specs.Executions.{SafeRun}
+use Rattle.verdict.specs.Executions.{Exit, ended_at, no_word_at, out_of_choices, State, at, left, arrive, next, run_from, SafeRun}
 
 -- an image that no refusal from 1 to 6 meets
 unfoldable pub Accepted : Image → Type 0
@@ -37,32 +37,81 @@ pub record RulesByCodes (p : Proto) (pc : ℕ) : Type 0 where
   pub constant : Below p.constants (constants_of (word_at p pc))
       ↔ (flatten (not_below pc 7 p.constants (constant_bx (word_at p pc)) ∷ not_below pc 14 p.constants (constant_in B (word_at p pc)) ∷ not_below pc 15 p.constants (constant_in C (word_at p pc)) ∷ []) ≡ [])
   pub upvalue : Below p.upvalues (upvalue_b (word_at p pc)) ↔ (not_below pc 8 p.upvalues (upvalue_b (word_at p pc)) ≡ [])
-  pub flag : Below 2 (flag_a (word_at p pc)) ↔ (not_below pc 9 2 (flag_a (word_at p pc)) ≡ [])
+  pub flag : Below flag_limit (flag_a (word_at p pc)) ↔ (not_below pc 9 flag_limit (flag_a (word_at p pc)) ≡ [])
   pub register : Below p.stack (registers_of (word_at p pc))
       ↔ (flatten (not_below pc 10 p.stack (register_a (word_at p pc)) ∷ not_below pc 11 p.stack (span_ends (word_at p pc)) ∷ not_below pc 12 p.stack (register_in B (word_at p pc)) ∷ not_below pc 13 p.stack (register_in C (word_at p pc)) ∷ []) ≡ [])
   pub proto : Below (length p.children) (child_bx (word_at p pc)) ↔ (not_below pc 16 (length p.children) (child_bx (word_at p pc)) ≡ [])
   pub binding : ((j : ℕ) → j < binding_words p pc → BindingKept p (word_at p (pc + 1 + j))) ↔ (flat_map (binding_diagnostics p) (up_from (pc + 1) (binding_words p pc)) ≡ [])
 
--- The children of a prototype of depth d, from the rows that come next on: a test, the child's own steps, its children, and then the rest, past the rows
--- below it. `fuel` is at least the number of those rows
-unfoldable pub walk_children : ℕ → ℕ → ℕ → List Row → List (List Step) → ℕ → Walk → Walk
-walk_children incoming zero d rs all row v = v
-walk_children incoming (suc fuel) d [] all row v = v
-walk_children incoming (suc fuel) d (r ∷ rs) [] row v = v
-walk_children incoming (suc fuel) d (r ∷ rs) (steps ∷ all) row v =
-    let n = length (below r.depth rs) in
-    let child = walk_row incoming row (advance incoming row v (tested_step [])) steps in
-    let itsChildren = walk_children incoming fuel r.depth rs all (suc row) child in
-    let rest = walk_children incoming fuel d (drop n rs) (drop n all) (suc row + n) itsChildren in
-    cond (ltb d r.depth) rest v
+-- the codes of the operands that a word names: constants 7, 14 and 15, upvalues 8, registers 10 to 13, child 16; at companions 12 and 8
+abbrev pub operand_codes : List ℕ
+operand_codes = 7 ∷ 8 ∷ up_from 10 7
 
--- the walk over an image by prototypes and their children: row 0's own steps, and then its children
-unfoldable pub walk_by_children : Image → Row → List Row → Walk
-walk_by_children i r rs =
-    let incoming = i.warnings + i.errors in
-    let words = u32s i.words in
-    let later = protos_of rs (drop r.words words) in
-    walk_children incoming (length rs) r.depth rs (map proto_steps later) 1 (walk_row incoming 0 start (proto_steps (proto_of r rs words)))
+-- a diagnostic of another code
+abbrev pub OfNoOperand : Diagnostic → Type 0
+OfNoOperand d = T (not (elem d.code operand_codes))
+
+-- The own steps of row r, "then the children", each after the test "before a child". `rs` are all rows and `all` their steps; `fuel` is at least the number
+-- of the rows from r on
+unfoldable pub walk_proto : ℕ → List Row → List (List Step) → ℕ → Row → Walk → Walk
+walk_proto incoming rs all zero r v = v
+walk_proto incoming rs all (suc fuel) r v =
+    let own = walk_row incoming r.row v (get_or all r.row []) in
+    let child = λ (u : Walk) (c : Row). walk_proto incoming rs all fuel c (advance incoming c.row u (tested_step [])) in
+    foldl child own (children r.depth (drop (suc r.row) rs))
+
+-- the walk over an image by prototypes and their children: row 0 with its children, which have theirs
+unfoldable pub walk_by_children : Image → Walk
+walk_by_children i =
+    let rs = rows i.table in
+    walk_proto (i.warnings + i.errors) rs (map proto_steps (image_protos i)) (length rs) (row_at i.table 0) start
+
+-- what a call that is refused leaves of the role buffer: "Trays stay untouched, but 8 comes with roles written"
+pub record RolesLeft (table words old : List ℕ) (r : Refused) : Type 0 where
+  pub written : r.number ≡ 8 → roles_after table words old ≡ records_of (flat_map roles (protos table words)) ++ drop (role_bytes * word_total (rows table)) old
+  pub untouched : r.number ≢ 8 → roles_after table words old ≡ old
+
+-- a run that is at a word when the list gives out
+abbrev pub GoesOn : Exit → Type 0
+GoesOn (ended_at pc) = ⊥
+GoesOn (no_word_at z) = ⊥
+GoesOn out_of_choices = Unit {0}
+
+-- the words that go elsewhere than to the next word, but for LOADBOOL
+abbrev pub goes_elsewhere : List ℕ
+goes_elsewhere = JMP ∷ FORPREP ∷ FORLOOP ∷ RETURN ∷ TAILCALL ∷ CLOSURE ∷ SETLIST ∷ conditional_skips
+
+-- Where a step from the word at pc goes, of any prototype, sentence by sentence: "JMP goes to its target; FORPREP too; FORLOOP there or to the next word;
+-- a skip word to place + 1 or + 2, LOADBOOL with C not 0 only + 2; an owner past its companions; RETURN ends; TAILCALL ends or goes on; others go on"
+pub record GoesAsTold (p : Proto) (pc : ℕ) : Type 0 where
+  pub jumps : T (is (word_at p pc) (JMP ∷ FORPREP ∷ [])) → (choice : Bool) → next p pc choice ≡ arrive p (target pc (word_at p pc))
+  pub loops : T (is (word_at p pc) (FORLOOP ∷ [])) → (next p pc true ≡ arrive p (target pc (word_at p pc))) × (next p pc false ≡ arrive p (pos (pc + 1)))
+  pub skips : T (is (word_at p pc) conditional_skips) → (next p pc true ≡ arrive p (pos (pc + 2))) × (next p pc false ≡ arrive p (pos (pc + 1)))
+  pub loadbool : T (is_loadbool_skip (word_at p pc)) → (choice : Bool) → next p pc choice ≡ arrive p (pos (pc + 2))
+  pub owns : T (is (word_at p pc) (CLOSURE ∷ SETLIST ∷ [])) → (choice : Bool) → next p pc choice ≡ arrive p (pos (pc + 1 + companions p pc))
+  pub returns : T (is (word_at p pc) (RETURN ∷ [])) → (choice : Bool) → next p pc choice ≡ left (ended_at pc)
+  pub tailcall : T (is (word_at p pc) (TAILCALL ∷ [])) → (next p pc true ≡ left (ended_at pc)) × (next p pc false ≡ arrive p (pos (pc + 1)))
+  pub others : T (not (is (word_at p pc) goes_elsewhere || is_loadbool_skip (word_at p pc)))
+      → (choice : Bool) → next p pc choice ≡ arrive p (pos (pc + 1))
+
+-- "comes to a place without a word": "past the last word is any place not below the word count"
+pub record ArrivesAsTold (p : Proto) : Type 0 where
+  pub inside : (n : ℕ) → n < length p.code → arrive p (pos n) ≡ at n
+  pub past : (n : ℕ) → length p.code ≤ n → arrive p (pos n) ≡ left (no_word_at (pos n))
+  pub before : (n : ℕ) → arrive p (negsuc n) ≡ left (no_word_at (negsuc n))
+
+-- a run "leaves only at RETURN, TAILCALL or past the last word", if it leaves
+pub record LeavesOnlyThere (p : Proto) (e : Exit) : Type 0 where
+  pub ended : (pc : ℕ) → e ≡ ended_at pc → T (is (word_at p pc) (RETURN ∷ TAILCALL ∷ []))
+  pub no_word : (z : ℤ) → e ≡ no_word_at z → (n : ℕ) × (z ≡ pos n) × (length p.code ≤ n)
+
+-- a run that goes on met a word for each choice and then the one that it stands at; with more choices it meets, after the same words, what a run from there meets
+pub record GoesOnFrom (p : Proto) (s : State) (choices : List Bool) : Type 0 where
+  pub before : List ℕ
+  pub each : length before ≡ length choices
+  pub stands : ℕ
+  pub met : (run_from p choices s).met ≡ before ++ (stands ∷ [])
+  pub rest : (more : List Bool) → run_from p (choices ++ more) s ≡ record { met = before ++ (run_from p more (at stands)).met; exit = (run_from p more (at stands)).exit }
 
 -- a prototype that keeps the rules and of which every run is safe
 pub record Passed (p : Proto) : Type 0 where
@@ -83,4 +132,4 @@ pub record Guarantee (i : Image) (c : Checked) : Type 0 where
   -- Invalid exactly when an error came in or was found
   pub invalid : (c.verdict ≡ Invalid) ↔ ((0 < i.errors) ⊎ Some IsError (diagnostics i))
   -- and at most so many diagnostics
-  pub most : c.count ≤ 10255
+  pub most : c.count ≤ most_diagnostics

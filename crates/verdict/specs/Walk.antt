@@ -18,6 +18,10 @@ in_row row d = record { row = row; diagnostic = d }
 abbrev pub max_diagnostics : ℕ
 max_diagnostics = 10000
 
+-- the most that the walk over an accepted image finds: "10,255 new ones can occur"
+abbrev pub most_diagnostics : ℕ
+most_diagnostics = 10255
+
 -- what the walk found, and whether a test ended it
 pub record Walk : Type 0 where
   pub found : List RowDiagnostic

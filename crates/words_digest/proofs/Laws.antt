@@ -1,11 +1,10 @@
 -- The digest of one word more. Assumes nothing.
-use Rattle.std.proofs.Common.{◌≡◌, ℕ, ◌+◌, ◌*◌, ◌/◌, ◌%◌, ◌^◌, ◌<◌, ◌≤◌, ◌∙◌, List, ◌++◌, length, take, drop, add-one, add-zero, arith, ap, sym, take-suc, length-append, length-drop}
-use lib.Seq.{take_at, drop-drop, drop-append-add}
+use Rattle.std.proofs.Common.{◌≡◌, ℕ, ◌+◌, ◌*◌, ◌/◌, ◌%◌, ◌^◌, ◌<◌, ◌≤◌, ◌∙◌, List, ◌++◌, length, take, drop, add-one, add-zero, arith, ap, take-suc}
 use mathlib.Core.List.{foldl-append}
 use Rattle.opcodes.specs.Bytes.{u32_at, u32s}
 use Rattle.opcodes.specs.Words.{decoded}
 use Rattle.opcodes.proofs.ByteLaws.{get_d_u32s, length_u32s}
-use Rattle.opcodes.proofs.PartLaws.{u32_at_part}
+use Rattle.opcodes.proofs.PartLaws.{next_part, u32_at_part}
 use Rattle.words_digest.specs.Digest.{digest, weight}
 
 pub digest_next : (s : List ℕ) (i : ℕ) → i < length s / 4 → digest (take (i + 1) (u32s s)) ≡ (digest (take i (u32s s)) + weight (decoded (u32_at s (4 * i)))) % 2 ^ 64
@@ -22,9 +21,10 @@ pub record Cut (s word rest : List ℕ) (i : ℕ) : Type 0 where
 
 pub cut : (s word rest : List ℕ) (i : ℕ) → 4 * i ≤ length s → drop (4 * i) s ≡ word ++ rest → length word ≡ 4 → Cut s word rest i
 cut s word rest i h e four =
-    let next : 4 * i + 4 ≡ 4 * (i + 1) = omega arith in
+    let taken = next_part s word rest (4 * i) 4 h e four in
+    let after : 4 * i + 4 ≡ 4 * (i + 1) = omega arith in
     record {
-      within = omega (arith, length-drop (4 * i) s, ap length e, length-append word rest);
-      left = sym (drop-append-add word rest 0) ∙ ap (λ (n : ℕ). drop n (word ++ rest)) (add-zero (length word) ∙ four) ∙ ap (drop 4) (sym e) ∙ drop-drop 4 (4 * i) s ∙ ap (λ (n : ℕ). drop n s) next;
-      value = ap (λ (l : List ℕ). u32_at l 0) (sym (take_at word rest 4 four) ∙ ap (take 4) (sym e)) ∙ u32_at_part s (4 * i) 4 0 (omega arith) ∙ ap (u32_at s) (add-zero (4 * i));
+      within = omega (arith, taken.within);
+      left = taken.rest_is ∙ ap (λ (n : ℕ). drop n s) after;
+      value = ap (λ (l : List ℕ). u32_at l 0) taken.part_is ∙ u32_at_part s (4 * i) 4 0 (omega arith) ∙ ap (u32_at s) (add-zero (4 * i));
     }

@@ -3,24 +3,31 @@
 //! reads images in the same format and writes them with luad's answers; `answers packcheck` reads a listing and writes
 //! what the program packcheck must print. `answers listings DIR` writes the stored listings and what packcheck must
 //! print for them, as NAME.in and NAME.out, `answers long DIR` long inputs, and `answers random-listings SEED COUNT DIR`
-//! random ones; each counts the answers.
+//! random ones; each counts the answers. `answers runs [SEED]` writes the list of prototypes with choices and what their
+//! executions meet, by default the fixed one, and `answers run-counts [SEED]` counts over it.
 use answers::calls::{calls, Calls};
 use answers::counts::Counts;
 use answers::families::{self, SEED};
 use answers::image::Image;
 use answers::listings::{long, random, stored, Listing};
 use answers::packcheck::packcheck;
+use answers::runs::{self, text::write_run};
 use answers::text::{read_images, write_record};
 use std::collections::BTreeMap;
 use std::io::{self, Read, Write};
 use std::path::Path;
 
 const USAGE: &str = "answers list or counts [short, or small|large|all [SEED]], judge, packcheck, listings DIR, \
-    long DIR, or random-listings SEED COUNT DIR";
+    long DIR, random-listings SEED COUNT DIR, or runs or run-counts [SEED]";
+
+/// The seed that an argument gives, if there is one, or else that of the fixed list.
+fn seed(arg: Option<&&str>) -> u64 {
+    arg.map_or(SEED, |seed| seed.parse().expect("a seed"))
+}
 
 /// Hands on the images that the arguments name: a list, by default the whole fixed one, and its seed.
 fn each(args: &[&str], visit: &mut dyn FnMut(&Image, &Calls)) {
-    let seed = args.get(1).map_or(SEED, |seed| seed.parse().expect("a seed"));
+    let seed = seed(args.get(1));
     match args {
         ["short"] => families::short(visit),
         ["small"] | ["small", _] => families::small(seed, visit),
@@ -86,6 +93,12 @@ fn main() {
         ["random-listings", seed, count, dir] => {
             let (seed, count) = (seed.parse().expect("a seed"), count.parse().expect("a number"));
             put(write_listings(dir, random(seed, count)));
+        }
+        ["runs"] | ["runs", _] => runs::each(seed(args.get(1)), &mut |run| put(write_run(run))),
+        ["run-counts"] | ["run-counts", _] => {
+            let mut counts = runs::counts::Counts::default();
+            runs::each(seed(args.get(1)), &mut |run| counts.add(run));
+            put(counts.to_string());
         }
         _ => panic!("{USAGE}"),
     }

@@ -17,7 +17,7 @@ fn near(rng: &mut Rng, limits: &[u32], end: u32) -> u32 {
 }
 
 /// A word of the given opcode for a prototype of so many words and children.
-fn word(rng: &mut Rng, opcode: u32, proto: &Source, pc: usize, words: usize, children: u32) -> u32 {
+pub fn word(rng: &mut Rng, opcode: u32, proto: &Source, pc: usize, words: usize, children: u32) -> u32 {
     let a = near(rng, &[proto.stack, 2], 256);
     match opcode {
         op::JMP | op::FORLOOP | op::FORPREP => jump(opcode, a, pc, rng.below(words as u32 + 4) as i32 - 2),
@@ -32,7 +32,7 @@ fn word(rng: &mut Rng, opcode: u32, proto: &Source, pc: usize, words: usize, chi
 }
 
 /// An opcode, most often a known one, with a liking for owners.
-fn opcode(rng: &mut Rng) -> u32 {
+pub fn opcode(rng: &mut Rng) -> u32 {
     match rng.below(20) {
         0 => rng.range(38, 63),
         1 | 2 => op::CLOSURE,

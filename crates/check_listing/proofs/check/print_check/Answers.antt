@@ -2,10 +2,10 @@
 use Rattle.std.proofs.Common.{ℕ, ap₂, arith, length-take-le, refl, sym, ◌∙◌}
 use Rattle.listing.specs.Packcheck.{refusal_text}
 use Rattle.check_listing.specs.Terms.{listing_of}
-use Rattle.validator.specs.Terms.{checked_in}
+use Rattle.validator.specs.Terms.{checked_of}
 use Rattle.check_listing.proofs.AnswerLaws.{refusal_output, result_count, result_output}
 use Rattle.check_listing.proofs.PrintLaws.{prints_as}
-use Rattle.check_listing.proofs.RecordLaws.{records_front}
+use Rattle.verdict.proofs.RecordLaws.{records_front}
 use Rattle.check_listing.proofs.check.print_check.Goals as goal
 
 pub slice_bounds-diagnostics-end : goal.slice_bounds-diagnostics-end
@@ -27,7 +27,7 @@ returns-in-Err c =
     c.refusal.ensures
 
 pub returns-in-Ok : goal.returns-in-Ok
-unfolding listing_of checked_in
+unfolding listing_of checked_of
 returns-in-Ok c =
     let few = result_count _ _ c.validate_chunk_lua51.ensures.result_value _ c.in-Ok.is in
     let front = records_front c.validate_chunk_lua51.new.diagnostics c.in-Ok.validation.count (omega (arith, few)) in

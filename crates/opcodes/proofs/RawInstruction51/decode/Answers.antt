@@ -17,4 +17,4 @@ returns c =
     let e : to_z w32 bx ≡ pos bx = to_z_pos w32 {n = bx} (omega arith) in
     let s : to_z w32 (of_z w32 (to_z w32 bx -ℤ pos 131071)) ≡ pos bx -ℤ pos 131071 =
     to_z-of_z {w = w32} (rw e (sub_fits w32 bx _ (omega arith) (lit< tt))) ∙ ap (λ (z : ℤ). z -ℤ pos 131071) e in
-    rw (div-one, s, c.from-opcode.ensures)
+    rw (div-one, s, c.from-opcode.ensures.0)

@@ -1,7 +1,6 @@
 -- By the row that the search found.
 use Rattle.std.proofs.Common.{sym, ◌∙◌, arith}
-use Rattle.chunk.specs.Table.{proto_of}
-use Rattle.roles.specs.Terms.{proto_in}
+use Rattle.chunk.specs.Table.{proto_of, proto_in}
 use Rattle.validator.proofs.FaultLaws.{child_found, child_missed}
 use Rattle.validator.proofs.fault.child_upvalues.Goals as goal
 

@@ -1,4 +1,4 @@
--- A stack of more than 250 is warned of.
+-- A stack larger than the usual is warned of.
 use Rattle.validator.proofs.OwnLaws.{stack_warned}
 use Rattle.validator.proofs.proto.validate_stack.Goals as goal
 

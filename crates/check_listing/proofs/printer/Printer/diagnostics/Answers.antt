@@ -4,9 +4,9 @@ use Rattle.std.specs.Slice.Iter.{chunks_exact_rest, chunks_exact_size}
 use mathlib.Core.List.{flat_map}
 use Rattle.verdict.specs.Walk.{diagnostic_bytes}
 use Rattle.listing.specs.Packcheck.{diagnostic_text}
-use Rattle.check_listing.specs.Terms.{diagnostics_in}
+use Rattle.verdict.specs.Records.{diagnostics_in}
 use Rattle.check_listing.proofs.PrintLaws.{diagnostic_end, diagnostics_end, prints_as, prints_diagnostics_next, prints_length, prints_none}
-use Rattle.check_listing.proofs.RecordLaws.{cut}
+use Rattle.verdict.proofs.RecordLaws.{cut}
 use Rattle.check_listing.proofs.printer.Printer.diagnostics.Goals as goal
 
 pub loop-bytes-init : goal.loop-bytes-init

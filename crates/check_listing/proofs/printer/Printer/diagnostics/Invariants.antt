@@ -3,7 +3,8 @@ use Rattle.std.proofs.Common.{◌≡◌, ◌*◌, ◌≤◌, length, drop}
 use mathlib.Core.List.{flat_map}
 use Rattle.verdict.specs.Walk.{diagnostic_bytes}
 use Rattle.listing.specs.Packcheck.{diagnostic_text}
-use Rattle.check_listing.specs.Terms.{Prints, diagnostics_in}
+use Rattle.verdict.specs.Records.{diagnostics_in}
+use Rattle.check_listing.specs.Terms.{Prints}
 use Rattle.check_listing.proofs.printer.Printer.diagnostics.Given as goal
 
 abbrev pub invariant-loop-bytes : goal.invariant-loop-bytes

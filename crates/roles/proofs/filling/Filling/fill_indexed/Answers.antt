@@ -2,14 +2,14 @@
 use Rattle.std.proofs.Common.{◌≡◌, suc, ◌+◌, ◌-◌, ◌*◌, length, take, drop, ap, ◌∙◌, subst, arith, refl, length-drop, length-take}
 use mathlib.Core.Path.{subst⁻¹}
 use Rattle.opcodes.specs.Bytes.{overwrite, u32s}
-use Rattle.chunk.specs.Table.{row_at, rows}
+use Rattle.chunk.specs.Table.{row_at, rows, proto_in}
 use Rattle.chunk.specs.Bindings.{writes}
 use Rattle.chunk.specs.Roles.{records_of, role_bytes, roles}
 use Rattle.chunk.proofs.TotalLaws.{records_front}
+use Rattle.chunk.proofs.RowPartLaws.{part_length, part_proto}
 use Rattle.roles.specs.BindingSteps.{BindsFrom, bound_in}
-use Rattle.roles.specs.Terms.{proto_in}
 use Rattle.roles.specs.declared.table.Row.{Row}
-use Rattle.roles.proofs.RoleFillLaws.{fill_begins, fill_ends, fill_next, words_of_lem, rows_there, words_there, part_length, part_proto, part_written}
+use Rattle.roles.proofs.RoleFillLaws.{fill_begins, fill_ends, fill_next, words_of_lem, rows_there, words_there, part_written}
 use Rattle.roles.proofs.BindingFillLaws.{few_records, rows_begin, rows_end_bound, rows_next, base_next, binds_from}
 use Rattle.roles.proofs.filling.Filling.fill_indexed.Goals as goal
 

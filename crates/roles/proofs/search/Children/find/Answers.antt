@@ -1,7 +1,8 @@
 -- From the end on there is no child.
 use Rattle.std.proofs.Common.{◌≡◌, suc, subst}
 use Rattle.std.specs.declared.option.Option.TheVariants as maybe
-use Rattle.roles.specs.Terms.{child_from, child_of_row}
+use Rattle.chunk.specs.Table.{child_of_row}
+use Rattle.roles.specs.Terms.{child_from}
 use Rattle.roles.specs.declared.table.Row.{Row}
 use Rattle.roles.proofs.SearchLaws.{past_end}
 use Rattle.roles.proofs.search.Children.find.Goals as goal

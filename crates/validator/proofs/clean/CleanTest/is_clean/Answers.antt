@@ -1,7 +1,7 @@
 -- A companion, or a word that passes both tests.
 use Rattle.std.proofs.Common.{refl, arith}
+use Rattle.opcodes.proofs.SplitLaws.{split_again}
 use Rattle.validator.specs.Clean.{shapes}
-use Rattle.validator.proofs.FaultLaws.{split_again}
 use Rattle.validator.proofs.OperandLaws.{bx_below}
 use Rattle.validator.proofs.OwnLaws.{executes}
 use Rattle.validator.proofs.CleanLaws.{companion_clean, word_clean}

@@ -1,20 +1,11 @@
--- What a word is by the number of its opcode, and what an executable one owns. Assumes nothing.
-use Rattle.std.proofs.Common.{◌≡◌, ℕ, true, false, cond, eqb, List, [], ◌∷◌, sym, ap, ◌∙◌, eq-eqb, ne_eqb}
-use Rattle.opcodes.specs.Words.{decoded, is, opcode, CLOSURE, SETLIST}
+-- What an executable word owns, by the number of its opcode. Assumes nothing.
+use Rattle.std.proofs.Common.{◌≡◌, ℕ, cond, eqb, List, ap, ◌∙◌}
+use Rattle.opcodes.specs.Words.{decoded, CLOSURE, SETLIST}
 use Rattle.opcodes.specs.declared.RawInstruction51.{RawInstruction51}
 use Rattle.chunk.specs.Roles.{has_extra}
+use Rattle.opcodes.proofs.SplitLaws.{has_opcode, has_other}
 use Rattle.roles.specs.Terms.{child_bindings, companions_of}
 use Rattle.roles.specs.declared.discovery.Companions.TheVariants.{None, Extra}
-
--- a word that was split has this opcode, or has another
-module _ (w : ℕ) (r : RawInstruction51) (split : r ≡ decoded w) where
-  pub has_opcode : (op : ℕ) → r.opcode_num ≡ op → is w (op ∷ []) ≡ true
-  unfolding decoded is
-  has_opcode op e = rw (eq-eqb (opcode w) op (sym (ap (λ (x : RawInstruction51). x.opcode_num) split) ∙ e))
-
-  pub has_other : (op : ℕ) → (r.opcode_num ≡ op → ⊥) → is w (op ∷ []) ≡ false
-  unfolding decoded is
-  has_other op f = rw (ne_eqb (opcode w) op (λ e. f (ap (λ (x : RawInstruction51). x.opcode_num) split ∙ e)))
 
 module _ (table : List ℕ) (row w : ℕ) (r : RawInstruction51) (split : r ≡ decoded w) where
   pub owns_bindings : r.opcode_num ≡ CLOSURE → child_bindings table row r.bx ≡ companions_of table row w

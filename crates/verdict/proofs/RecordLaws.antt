@@ -5,18 +5,18 @@ use native.Mathlib.Omega.{arith}
 use mathlib.Core.Path.{◌≡◌, refl, sym, ap, ◌∙◌}
 use mathlib.Core.List.{List, ◌++◌, map, flat_map}
 use borrow.Author.Tests.{lt-ltb, le-ltb}
-use lib.ListN.{length, get_or, take, drop, length-append, length-drop, length-map, get_or-map}
+use lib.ListN.{length, get_or, take, drop, length-map, get_or-map}
 use lib.IntN.{ℤ, pos, negsuc}
-use lib.Seq.{length-take-le, ext_get_or, take_at, drop-drop, drop-append-add}
+use lib.Seq.{length-take-le, ext_get_or}
 use Rattle.opcodes.specs.Lists.{All, tabulate}
 use Rattle.opcodes.specs.Bytes.{overwrite, u32_at, i32_bits, i32_record}
 use Rattle.opcodes.proofs.AllLaws.{all_at, all_map, all_flat_map, all_imp}
 use Rattle.opcodes.proofs.ByteLaws.{u32_at_record}
-use Rattle.opcodes.proofs.PartLaws.{u32_at_part}
+use Rattle.opcodes.proofs.PartLaws.{next_part, u32_at_part}
 use Rattle.opcodes.proofs.ListLaws.{get_d_tabulate, length_tabulate, get_d_flat_map, length_flat_map}
 use Rattle.verdict.specs.Walk.{RowDiagnostic, diagnostic_fields, diagnostic_bytes}
 use Rattle.verdict.proofs.RangeLaws.{Signed32, InRange, signed_bits_below, fields_signed}
-use Rattle.check_listing.specs.Terms.{signed, diagnostic_in, diagnostics_in}
+use Rattle.verdict.specs.Records.{signed, diagnostic_in, diagnostics_in}
 
 -- the number that the bits of an i32 are
 pub signed_back : (z : ℤ) → Signed32 z → signed (i32_bits z) ≡ z
@@ -84,11 +84,12 @@ pub record Cut (s part rest : List ℕ) (i : ℕ) : Type 0 where
 
 pub cut : (s part rest : List ℕ) (i : ℕ) → 16 * i ≤ length s → drop (16 * i) s ≡ part ++ rest → length part ≡ 16 → Cut s part rest i
 cut s part rest i h e size =
-    let next : 16 * i + 16 ≡ 16 * (i + 1) = omega arith in
+    let taken = next_part s part rest (16 * i) 16 h e size in
+    let after : 16 * i + 16 ≡ 16 * (i + 1) = omega arith in
     record {
-      within = omega (arith, length-drop (16 * i) s, ap length e, length-append part rest);
-      left = sym (drop-append-add part rest 0) ∙ ap (λ (n : ℕ). drop n (part ++ rest)) (add-zero (length part) ∙ size) ∙ ap (drop 16) (sym e) ∙ drop-drop 16 (16 * i) s ∙ ap (λ (n : ℕ). drop n s) next;
-      value = ap (λ (l : List ℕ). diagnostic_in l 0) (sym (take_at part rest 16 size) ∙ ap (take 16) (sym e)) ∙ record_part s i 16 0 (omega arith) ∙ ap (diagnostic_in s) (add-zero i);
+      within = omega (arith, taken.within);
+      left = taken.rest_is ∙ ap (λ (n : ℕ). drop n s) after;
+      value = ap (λ (l : List ℕ). diagnostic_in l 0) taken.part_is ∙ record_part s i 16 0 (omega arith) ∙ ap (diagnostic_in s) (add-zero i);
     }
 
 -- the first n records of a buffer are those of its front

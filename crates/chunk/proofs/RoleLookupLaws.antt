@@ -5,10 +5,9 @@ use mathlib.Core.Option.{Option, none}
 use lib.ListN.{get_or-eq_default}
 use Rattle.opcodes.specs.Bytes.{i32_bits, u32_at, overwrite}
 use Rattle.chunk.specs.Table.{rows, Proto, protos}
-use Rattle.chunk.specs.Roles.{Role, Instruction, ClosureBinding, SetlistExtra, roles, role_at, role_fields, role_bytes, records_of}
+use Rattle.chunk.specs.Roles.{Role, Instruction, ClosureBinding, SetlistExtra, roles, role_at, role_fields, role_bytes, records_of, owner_field, index_field, role_from, role_in}
 use Rattle.chunk.specs.Refusals.{Refused, word_total, roles_refusal}
 use Rattle.chunk.specs.Calls.{filled, roles_after}
-use Rattle.roles.specs.Terms.{owner_field, index_field, role_from, role_in}
 use Rattle.opcodes.proofs.AllLaws.{all_get_d, all_at}
 use Rattle.chunk.proofs.RefusalLaws.{ImageKept, roles_kept}
 use Rattle.opcodes.proofs.ByteLaws.{length_overwrite}

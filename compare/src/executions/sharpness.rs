@@ -1,0 +1,180 @@
+//! Planted violations: in a valid image a word that an execution meets is changed, and the same choices are fed again, as
+//! if the image had passed. What is planted must be noticed, and the archive must find the changed image invalid.
+use super::checker::Checker;
+use super::choices;
+use super::images::KINDS;
+use super::plants::{plants, Plant, Site};
+use crate::library::Library;
+use answers::execution::{execute, prototypes, violations, Choice, Execution, Prototype};
+use answers::image::{rows, Image};
+use answers::judge::judge;
+use answers::rng::Rng;
+
+/// How often each violation is planted at least, if the images let it be, and at most.
+const ENOUGH: u64 = 30;
+const MOST: u64 = 200;
+
+/// Images that are tried at most.
+const MOST_IMAGES: u64 = 100_000;
+
+/// How often a violation is planted, how often it is noticed, and how often the archive finds it invalid.
+#[derive(Clone, Copy, Default)]
+struct Count {
+    planted: u64,
+    noticed: u64,
+    invalid: u64,
+}
+
+struct Session<'a> {
+    rng: Rng,
+    checker: Checker<'a>,
+    plants: Vec<(Plant, Count)>,
+    /// Valid images, and violations of their executions while nothing is planted.
+    valid: u64,
+    unplanted: u64,
+}
+
+/// A valid image, and the row in which something is planted.
+struct Row<'a> {
+    image: &'a Image,
+    /// The number of its first word in the image.
+    start: usize,
+    prototype: &'a Prototype,
+    roles: &'a [[i32; 2]],
+}
+
+impl Row<'_> {
+    /// The image with another word in this row.
+    fn with(&self, pc: usize, word: u32) -> Image {
+        let mut image = self.image.clone();
+        let at = 4 * (self.start + pc);
+        image.words[at..at + 4].copy_from_slice(&word.to_le_bytes());
+        image
+    }
+}
+
+/// One of the steps of an execution that come to a word behind all words met before. Up to there the roles and the steps
+/// stay as they are, whatever is planted there or behind it.
+fn step(rng: &mut Rng, execution: &Execution, choices: &[Choice]) -> Option<usize> {
+    let met = &execution.met;
+    let is_new = |step: &usize| met[..*step].iter().all(|pc| *pc < met[*step]);
+    let steps: Vec<usize> = (0..met.len().min(choices.len())).filter(is_new).collect();
+    if steps.is_empty() {
+        None
+    } else {
+        Some(rng.pick(&steps))
+    }
+}
+
+impl Session<'_> {
+    /// Plants each violation that can be at one word of an execution, alone.
+    fn plant(&mut self, row: &Row, choices: &[Choice], site: &Site) {
+        for (plant, count) in self.plants.iter_mut().filter(|(_, count)| count.planted < MOST) {
+            let Some(planted) = plant.at(&mut self.rng, site) else { continue };
+            let mut prototype = row.prototype.clone();
+            prototype.words[planted.pc] = planted.word;
+            let execution = execute(&prototype, choices).expect("a prototype with words");
+            count.planted += 1;
+            count.noticed += u64::from(violations(&prototype, &execution).contains(&planted.noticed));
+            count.invalid += u64::from(!self.checker.passes(&row.with(planted.pc, planted.word)));
+        }
+    }
+
+    /// Plants violations in executions of a prototype.
+    fn row(&mut self, row: &Row) {
+        let Row { prototype, roles, .. } = *row;
+        for _ in 0..3 {
+            let choices = choices(&mut self.rng, prototype);
+            let Some(execution) = execute(prototype, &choices) else { return };
+            self.unplanted += violations(prototype, &execution).len() as u64;
+            if let Some(step) = step(&mut self.rng, &execution, &choices) {
+                let site = Site { prototype, roles, pc: execution.met[step], choice: choices[step] };
+                self.plant(row, &choices, &site);
+            }
+        }
+    }
+
+    /// Plants violations in the prototypes of an image, if it is valid.
+    fn image(&mut self, image: &Image) {
+        if !self.checker.passes(image) {
+            return;
+        }
+        self.valid += 1;
+        let roles = judge(image).roles;
+        let mut start = 0;
+        for (prototype, proto) in prototypes(image).iter().zip(rows(&image.protos)) {
+            let end = start + proto.words as usize;
+            self.row(&Row { image, start, prototype, roles: &roles[start..end] });
+            start = end;
+        }
+    }
+}
+
+/// Prints how often each violation is planted, noticed and found invalid.
+fn print(session: &Session) {
+    println!("{:<48}{:>10}{:>10}{:>10}", "violation", "planted", "noticed", "invalid");
+    for (plant, Count { planted, noticed, invalid }) in &session.plants {
+        println!("{:<48}{planted:>10}{noticed:>10}{invalid:>10}", plant.name);
+    }
+}
+
+/// Plants violations until there are enough, and says whether each kind is planted, all are noticed, the archive finds all
+/// invalid, and no execution violates while nothing is planted.
+pub fn run(library: &mut dyn Library, seed: u64) -> bool {
+    let plants = plants().into_iter().map(|plant| (plant, Count::default())).collect();
+    let mut session = Session { rng: Rng::new(seed), checker: Checker::new(library), plants, valid: 0, unplanted: 0 };
+    let mut images = 0;
+    while images < MOST_IMAGES && session.plants.iter().any(|(_, count)| count.planted < ENOUGH) {
+        images += 1;
+        let image = session.rng.pick(&KINDS).1(&mut session.rng);
+        session.image(&image);
+    }
+    print(&session);
+    let Session { plants, valid, unplanted, .. } = session;
+    let sum = |of: fn(&Count) -> u64| plants.iter().map(|(_, count)| of(count)).sum::<u64>();
+    let [planted, noticed, invalid] =
+        [sum(|count| count.planted), sum(|count| count.noticed), sum(|count| count.invalid)];
+    let never = plants.iter().filter(|(_, count)| count.planted == 0).count();
+    println!("{valid} valid images, {unplanted} violations while nothing is planted");
+    println!(
+        "{} kinds of violations, {never} never planted; {planted} planted, {} not noticed, {} passed by the archive",
+        plants.len(),
+        planted - noticed,
+        planted - invalid
+    );
+    never == 0 && noticed == planted && invalid == planted && unplanted == 0
+}
+
+#[cfg(test)]
+mod tests {
+    use super::*;
+    use crate::library::Call;
+    use answers::execution::{Choice::On, End};
+
+    /// A library that passes every image.
+    struct Lenient;
+
+    impl Library for Lenient {
+        fn call(&mut self, _: Call, _: &Image, _: &mut [u8], _: &mut [u8]) -> u64 {
+            0
+        }
+    }
+
+    #[test]
+    fn a_library_that_passes_everything_is_caught() {
+        assert!(!run(&mut Lenient, 2));
+    }
+
+    #[test]
+    fn steps_to_words_behind_all_before() {
+        let execution = Execution { met: vec![0, 2, 1, 2, 4, 3], end: End::GaveOut(3) };
+        let mut rng = Rng::new(1);
+        let mut drawn = |choices: usize| {
+            let all: Vec<usize> = (0..50).filter_map(|_| step(&mut rng, &execution, &vec![On; choices])).collect();
+            (0..6).filter(|step| all.contains(step)).collect::<Vec<_>>()
+        };
+        assert_eq!(drawn(5), [0, 1, 4]);
+        assert_eq!(drawn(2), [0, 1]);
+        assert_eq!(drawn(0), []);
+    }
+}

@@ -1,0 +1,45 @@
+-- Worked examples of results: the table of host/header.c, which the header's own accessors compute there. proofs/PassLaws proves it of their transcriptions.
+-- Assumes nothing: these are definitions.
+use Rattle.std.specs.Prelude.{ℕ, Bool, true, false, List, [], ◌∷◌}
+use Rattle.luad51.specs.Results.{Reading}
+
+-- a result, and what is to be read from it
+pub record Example : Type 0 where
+  pub result : ℕ
+  pub expected : Reading
+
+-- with the refusal, the figure, the verdict, whether a check was accepted, and whether it is a pass
+abbrev example : ℕ → ℕ → ℕ → ℕ → Bool → Bool → Example
+example result refusal figure verdict checked passed =
+    record { result = result; expected = record { refusal = refusal; figure = figure; verdict = verdict; checked = checked; passed = passed } }
+
+unfoldable pub examples : List Example
+examples =
+    -- of an accepted check
+    example 0x800000000000 0 0 0 true true
+    ∷ example 0x80000000280f 0 10255 0 true true
+    ∷ example 0x8000ffffffff 0 4294967295 0 true true
+    ∷ example 0x810000000000 0 0 1 true false
+    ∷ example 0x810000000001 0 1 1 true false
+    ∷ example 0x820000000000 0 0 2 true false
+    ∷ example 0x82000000280f 0 10255 2 true false
+    -- that nobody set, and of another accepted call
+    ∷ example 0x0 0 0 0 false false
+    ∷ example 0x1 0 1 0 false false
+    ∷ example 0x3fc000 0 4177920 0 false false
+    -- of a refused call
+    ∷ example 0x100000000 1 0 0 false false
+    ∷ example 0x200000000 2 0 0 false false
+    ∷ example 0x300000000 3 0 0 false false
+    ∷ example 0x400003fff 4 16383 0 false false
+    ∷ example 0x500003fff 5 16383 0 false false
+    ∷ example 0x600000000 6 0 0 false false
+    ∷ example 0x700000000 7 0 0 false false
+    ∷ example 0x8003fc000 8 4177920 0 false false
+    -- of no call: each accessor reads its own bits
+    ∷ example 0x00007f0000000000 0 0 127 false false
+    ∷ example 0x000000ff00000000 255 0 0 false false
+    ∷ example 0x000080ff00000000 255 0 0 true false
+    ∷ example 0xffff800000000000 0 0 0 true true
+    ∷ example 0xffff7fffffffffff 255 4294967295 127 false false
+    ∷ []

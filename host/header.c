@@ -84,8 +84,13 @@ static void read_results(void)
         {0x00007f0000000000, 0, 0, 127, 0, 0},
         {0x000000ff00000000, 255, 0, 0, 0, 0},
         {0x000080ff00000000, 255, 0, 0, 1, 0},
-        {0xffff800000000000, 0, 0, 0, 1, 1},
+        {0x0000ff0000000000, 0, 0, 127, 1, 0},
+        /* of no call, with some of bits 48 to 63 */
+        {0x0001800000000000, 0, 0, 0, 1, 0},
+        {0x8000800000000001, 0, 1, 0, 1, 0},
+        {0xffff800000000000, 0, 0, 0, 1, 0},
         {0xffff7fffffffffff, 255, 4294967295u, 127, 0, 0},
+        {0xffffffffffffffff, 255, 4294967295u, 127, 1, 0},
     };
     in_case("reading results");
     for (size_t i = 0; i < COUNT(PACKED); i++) {

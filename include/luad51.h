@@ -31,8 +31,9 @@
  * children.
  *
  * The result of a call is figure + 2^32 * refusal + 2^40 * verdict, and of an accepted luad51_check 2^47 more: it sets
- * bit LUAD51_CHECKED_BIT, and nothing else does. Bits 48 to 63 are 0. So a result that nobody set (0), one of another
- * call and a refused one are no pass (luad51_passed).
+ * bit LUAD51_CHECKED_BIT, and nothing else does. Bits 48 to 63 are 0. A pass (luad51_passed) has that bit alone above
+ * its figure: a result that nobody set (0), one of another call, a refused one and a number with any of bits 48 to 63
+ * are none.
  *   accepted  refusal LUAD51_ACCEPTED; the figure is the number of role records, one for each word, or, of
  *             luad51_bindings, the number of binding records, one for each upvalue of each row, or, of luad51_check,
  *             the number of diagnostics; the verdict is that of luad51_check, and 0 of the other calls
@@ -206,11 +207,11 @@ static inline int luad51_checked(uint64_t result)
     return result >> LUAD51_CHECKED_BIT & 1;
 }
 
-/* Whether a result is a pass: of an accepted luad51_check, and LUAD51_VALID_FOR_PARSER. Nothing else is one. */
+/* Whether a result is a pass: of an accepted luad51_check, and LUAD51_VALID_FOR_PARSER. Nothing else is one: above the
+ * figure stands bit LUAD51_CHECKED_BIT alone, so refusal and verdict are 0, and so is every bit that no call sets. */
 static inline int luad51_passed(uint64_t result)
 {
-    return luad51_checked(result) && luad51_refusal(result) == LUAD51_ACCEPTED &&
-           luad51_verdict(result) == LUAD51_VALID_FOR_PARSER;
+    return (result >> 32) == (UINT64_C(1) << (LUAD51_CHECKED_BIT - 32));
 }
 
 /* The i32 whose four bytes begin here, at any address. */

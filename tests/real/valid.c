@@ -1,4 +1,4 @@
-/* Checks images of compiled scripts with the library: each must be accepted, ValidForParser, without diagnostics.
+/* Checks images of compiled scripts with the library: each must be a pass, without diagnostics.
  *     valid FILE..            every image of the files, in the format of tests/answers; answers are not looked at
  *     valid all FILE..        also: together they have every opcode, a SETLIST with C = 0, and both binding words
  *     valid same FILE STORED  the two files have the same images, in the same order
@@ -71,22 +71,21 @@ static void print_fault(const struct image *image, uint64_t result, const uint8_
 {
     printf("%.*s: refusal %u, figure %u, verdict %s", image->label_len, image->label, (unsigned)luad51_refusal(result),
            (unsigned)luad51_figure(result),
-           luad51_refusal(result) == LUAD51_ACCEPTED ? VERDICTS[luad51_verdict(result)] : "none");
-    if (luad51_refusal(result) == LUAD51_ACCEPTED && luad51_figure(result) > 0)
+           luad51_checked(result) ? VERDICTS[luad51_verdict(result)] : "none");
+    if (luad51_checked(result) && luad51_figure(result) > 0)
         printf("; first: row %u, pc %d, code %u, value %d", (unsigned)get(diagnostics), (int)get(diagnostics + 4),
                (unsigned)get(diagnostics + 8), (int)get(diagnostics + 12));
     putchar('\n');
 }
 
-/* Whether the check call accepts the image, finds nothing and says ValidForParser. Writes the roles. */
+/* Whether the image is a pass, without diagnostics. Writes the roles. */
 static bool is_valid(const struct image *image, struct bytes roles)
 {
     static uint8_t diagnostics[LUAD51_MAX_DIAGNOSTICS * LUAD51_DIAGNOSTIC_BYTES];
     uint64_t result =
         luad51_check(image->table.at, image->table.len, image->words.at, image->words.len, image->warnings,
                      image->errors, roles.at, roles.len, diagnostics, sizeof diagnostics);
-    bool valid = luad51_refusal(result) == LUAD51_ACCEPTED && luad51_figure(result) == 0 &&
-                 luad51_verdict(result) == LUAD51_VALID_FOR_PARSER;
+    bool valid = luad51_passed(result) && luad51_figure(result) == 0;
     if (!valid)
         print_fault(image, result, diagnostics);
     return valid;

@@ -241,13 +241,16 @@ static void take_back(const struct replay *replay, struct lent *lent)
     take_back_slice(replay, "table", &lent->table, &replay->image->table);
 }
 
+/* A pass is exactly an accepted check with ValidForParser. */
 static void compare_result(const struct replay *replay, uint64_t result)
 {
+    bool checked = replay->call == CHECK && replay->outcome.refusal == LUAD51_ACCEPTED;
     compare_number(replay, "refusal", replay->outcome.refusal, luad51_refusal(result));
     compare_number(replay, "figure", replay->outcome.figure, luad51_figure(result));
     compare_number(replay, "verdict", replay->outcome.verdict, luad51_verdict(result));
-    compare_number(replay, "checked", replay->call == CHECK && replay->outcome.refusal == LUAD51_ACCEPTED,
-                   (uint64_t)luad51_checked(result));
+    compare_number(replay, "checked", checked, (uint64_t)luad51_checked(result));
+    compare_number(replay, "passed", checked && replay->outcome.verdict == LUAD51_VALID_FOR_PARSER,
+                   (uint64_t)luad51_passed(result));
     compare_number(replay, "bits 48 to 63", 0, result >> 48);
 }
 

@@ -57,7 +57,7 @@ impl Session<'_> {
     /// Makes the executions of an image, if it is valid.
     fn image(&mut self, kind: usize, mut image: Image) {
         let is_valid = self.checker.passes(&image);
-        self.tally.add_image(kind, is_valid);
+        self.tally.add_image(kind, &image, is_valid);
         if is_valid {
             image.label = format!("{}-{}", kind + 1, self.tally.images());
             for (row, prototype) in prototypes(&image).iter().enumerate() {

@@ -66,7 +66,12 @@ fn step(rng: &mut Rng, execution: &Execution, choices: &[Choice]) -> Option<usiz
     }
 }
 
-impl Session<'_> {
+impl<'a> Session<'a> {
+    fn new(library: &'a mut dyn Library, seed: u64) -> Self {
+        let plants = plants().into_iter().map(|plant| (plant, Count::default())).collect();
+        Self { rng: Rng::new(seed), checker: Checker::new(library), plants, valid: 0, unplanted: 0 }
+    }
+
     /// Plants each violation that can be at one word of an execution, alone.
     fn plant(&mut self, row: &Row, choices: &[Choice], site: &Site) {
         for (plant, count) in self.plants.iter_mut().filter(|(_, count)| count.planted < MOST) {
@@ -108,61 +113,100 @@ impl Session<'_> {
             start = end;
         }
     }
+
+    /// Plants violations until there are enough.
+    fn all(&mut self) {
+        let mut images = 0;
+        while images < MOST_IMAGES && self.plants.iter().any(|(_, count)| count.planted < ENOUGH) {
+            images += 1;
+            let image = self.rng.pick(&KINDS).1(&mut self.rng);
+            self.image(&image);
+        }
+    }
+
+    fn total(&self) -> Total {
+        let sum = |of: fn(&Count) -> u64| self.plants.iter().map(|(_, count)| of(count)).sum::<u64>();
+        let [planted, noticed, invalid] =
+            [sum(|count| count.planted), sum(|count| count.noticed), sum(|count| count.invalid)];
+        Total {
+            never: self.plants.iter().filter(|(_, count)| count.planted == 0).count(),
+            planted,
+            unnoticed: planted - noticed,
+            passed: planted - invalid,
+            unplanted: self.unplanted,
+        }
+    }
+}
+
+/// How many kinds are never planted, how often any is planted, not noticed, and passed by the archive, and how many
+/// violations there are while nothing is planted.
+#[derive(Debug)]
+struct Total {
+    never: usize,
+    planted: u64,
+    unnoticed: u64,
+    passed: u64,
+    unplanted: u64,
+}
+
+impl Total {
+    /// Whether each kind is planted, all are noticed, the archive finds all invalid, and no execution violates while
+    /// nothing is planted.
+    fn is_right(&self) -> bool {
+        self.never == 0 && self.unnoticed == 0 && self.passed == 0 && self.unplanted == 0
+    }
 }
 
 /// Prints how often each violation is planted, noticed and found invalid.
-fn print(session: &Session) {
+fn print(session: &Session, total: &Total) {
     println!("{:<48}{:>10}{:>10}{:>10}", "violation", "planted", "noticed", "invalid");
     for (plant, Count { planted, noticed, invalid }) in &session.plants {
         println!("{:<48}{planted:>10}{noticed:>10}{invalid:>10}", plant.name);
     }
-}
-
-/// Plants violations until there are enough, and says whether each kind is planted, all are noticed, the archive finds all
-/// invalid, and no execution violates while nothing is planted.
-pub fn run(library: &mut dyn Library, seed: u64) -> bool {
-    let plants = plants().into_iter().map(|plant| (plant, Count::default())).collect();
-    let mut session = Session { rng: Rng::new(seed), checker: Checker::new(library), plants, valid: 0, unplanted: 0 };
-    let mut images = 0;
-    while images < MOST_IMAGES && session.plants.iter().any(|(_, count)| count.planted < ENOUGH) {
-        images += 1;
-        let image = session.rng.pick(&KINDS).1(&mut session.rng);
-        session.image(&image);
-    }
-    print(&session);
-    let Session { plants, valid, unplanted, .. } = session;
-    let sum = |of: fn(&Count) -> u64| plants.iter().map(|(_, count)| of(count)).sum::<u64>();
-    let [planted, noticed, invalid] =
-        [sum(|count| count.planted), sum(|count| count.noticed), sum(|count| count.invalid)];
-    let never = plants.iter().filter(|(_, count)| count.planted == 0).count();
-    println!("{valid} valid images, {unplanted} violations while nothing is planted");
+    let Total { never, planted, unnoticed, passed, unplanted } = total;
+    println!("{} valid images, {unplanted} violations while nothing is planted", session.valid);
     println!(
         "{} kinds of violations, {never} never planted; {planted} planted, {} not noticed, {} passed by the archive",
-        plants.len(),
-        planted - noticed,
-        planted - invalid
+        session.plants.len(),
+        unnoticed,
+        passed
     );
-    never == 0 && noticed == planted && invalid == planted && unplanted == 0
+}
+
+/// Plants violations until there are enough, prints their counts, and says whether all is as it must be.
+pub fn run(library: &mut dyn Library, seed: u64) -> bool {
+    let mut session = Session::new(library, seed);
+    session.all();
+    let total = session.total();
+    print(&session, &total);
+    total.is_right()
 }
 
 #[cfg(test)]
 mod tests {
     use super::*;
-    use crate::library::Call;
+    use crate::library::{Call, CHECKED};
     use answers::execution::{Choice::On, End};
 
-    /// A library that passes every image.
+    /// A library that passes every image: its checks are accepted, with ValidForParser.
     struct Lenient;
 
     impl Library for Lenient {
         fn call(&mut self, _: Call, _: &Image, _: &mut [u8], _: &mut [u8]) -> u64 {
-            0
+            CHECKED
         }
     }
 
     #[test]
     fn a_library_that_passes_everything_is_caught() {
-        assert!(!run(&mut Lenient, 2));
+        let mut lenient = Lenient;
+        let mut session = Session::new(&mut lenient, 2);
+        session.all();
+        let total = session.total();
+        assert!(total.planted > 0 && total.unplanted > 0, "{total:?}");
+        assert_eq!(total.passed, total.planted);
+        // that they pass is enough
+        assert!(!Total { never: 0, unnoticed: 0, unplanted: 0, ..total }.is_right());
     }
 
     #[test]

@@ -1,6 +1,7 @@
 //! Counts over the executions of valid images.
 use super::images::KINDS;
 use answers::execution::{Choice, End, Execution, Prototype};
+use answers::image::{Image, ROW_LEN};
 use answers::word::op;
 use luad::opcodes::Opcode51;
 use std::collections::BTreeMap;
@@ -22,6 +23,9 @@ const ENDS: [&str; 5] =
 /// The known opcodes.
 const OPCODES: u32 = 38;
 
+/// A run with more steps is a long one.
+const LONG: usize = 100;
+
 #[derive(Default)]
 pub struct Tally {
     /// By kind; the last is that of compiled scripts.
@@ -29,9 +33,13 @@ pub struct Tally {
     ends: [u64; ENDS.len()],
     /// Steps by opcode: those that are to go on, and those that are to go off.
     steps: BTreeMap<u32, [u64; 2]>,
+    /// Runs that are long.
+    long: u64,
     /// Words of the prototypes, and those of them that some execution meets.
     words: u64,
     met: u64,
+    /// Rows and words of the valid images, each of which is to be among the prototypes'.
+    of_images: [u64; 2],
     pub runs: u64,
     pub violating: u64,
 }
@@ -40,9 +48,14 @@ pub struct Tally {
 pub const SCRIPTS: usize = KINDS.len();
 
 impl Tally {
-    pub fn add_image(&mut self, kind: usize, is_valid: bool) {
+    pub fn add_image(&mut self, kind: usize, image: &Image, is_valid: bool) {
         self.kinds[kind].images += 1;
-        self.kinds[kind].valid += u64::from(is_valid);
+        if is_valid {
+            self.kinds[kind].valid += 1;
+            let [rows, words] = &mut self.of_images;
+            *rows += (image.protos.len() / ROW_LEN) as u64;
+            *words += (image.words.len() / 4) as u64;
+        }
     }
 
     pub fn images(&self) -> u64 {
@@ -72,13 +85,15 @@ impl Tally {
         };
         self.ends[end] += 1;
         let met = execution.map_or(&[][..], |execution| &execution.met);
+        self.long += u64::from(met.len().min(choices.len()) > LONG);
         for (pc, choice) in met.iter().zip(choices) {
             let steps = self.steps.entry(prototype.fields(*pc).opcode).or_default();
             steps[usize::from(*choice == Choice::Off)] += 1;
         }
     }
 
-    /// What must occur and does not: valid images of each kind, ends, and known opcodes, each with both choices.
+    /// What must occur and does not: valid images of each kind, ends, known opcodes, each with both choices, long runs, and
+    /// runs of every prototype.
     pub fn missing(&self) -> Vec<String> {
         let mut missing = Vec::new();
         let mut need = |count: u64, name: String| {
@@ -92,6 +107,12 @@ impl Tally {
             let [on, off] = self.steps.get(&opcode).copied().unwrap_or_default();
             need(on.min(off), format!("{} with both choices", name(opcode)));
         }
+        need(self.long, format!("a run of more than {LONG} steps"));
+        let prototypes = self.kinds.iter().map(|count| count.prototypes).sum();
+        need(
+            u64::from([prototypes, self.words] == self.of_images),
+            "runs of every prototype, with all its words".into(),
+        );
         missing
     }
 }
@@ -129,6 +150,7 @@ impl fmt::Display for Tally {
             }
         }
         writeln!(f, "{:<32}{others:>10}\n", "one way")?;
+        writeln!(f, "{} runs of more than {LONG} steps", self.long)?;
         writeln!(f, "{} words, of which {} are met", self.words, self.met)?;
         let Tally { runs, violating, .. } = self;
         write!(f, "{} images, {} of them valid; {runs} runs, {violating} violate", self.images(), self.valid())

@@ -32,9 +32,16 @@ unfoldable pub bad_depth : ℕ → ℕ → List Row → Option Refused
 bad_depth least most [] = none
 bad_depth least most (r ∷ rs) = or_else (refuse_if (not (depth_fits least most r)) 4 r.row) (bad_depth 1 (suc r.depth) rs)
 
+-- "upvalues and stack 255"
+abbrev pub max_upvalues : ℕ
+max_upvalues = 255
+
+abbrev pub max_stack : ℕ
+max_stack = 255
+
 -- 5, odd figure: the first row with "constants, upvalues or stack over limit"
 unfoldable pub fields_fit : Row → Bool
-fields_fit r = leb r.constants 2147483647 && leb r.upvalues 255 && leb r.stack 255
+fields_fit r = leb r.constants 2147483647 && leb r.upvalues max_upvalues && leb r.stack max_stack
 
 -- of these rows
 unfoldable pub bad_field : List Row → Option Refused

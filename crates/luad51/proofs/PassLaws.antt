@@ -1,8 +1,9 @@
 -- What a call's number says to a caller that has only that: a pass is an accepted check with ValidForParser and nothing else, and no answer is lost.
 -- Assumes nothing.
-use Rattle.std.specs.Prelude.{◌≡◌, refl, ℕ, ◌↔◌, Bool, true, false, ◌&&◌, nat_eq, map}
+use Rattle.std.specs.Prelude.{◌≡◌, refl, ℕ, ◌+◌, ◌*◌, ◌/◌, ◌%◌, ◌^◌, ◌<◌, ◌↔◌, Bool, true, false, nat_eq, map}
+use native.Mathlib.Omega.{arith}
 use borrow.Author.Tests.{eqb-true}
-use mathlib.Core.Path.{sym, ap, subst}
+use mathlib.Core.Path.{sym, ◌∙◌, ap, subst}
 use Rattle.opcodes.specs.Lists.{All}
 use Rattle.opcodes.proofs.TestLaws.{true≢false}
 use Rattle.chunk.specs.Refusals.{Refused}
@@ -11,7 +12,7 @@ use Rattle.verdict.specs.Walk.{Verdict, ValidForParser, Incomplete, Invalid}
 use Rattle.verdict.specs.Image.{Image, image_protos}
 use Rattle.verdict.specs.Check.{Checked}
 use Rattle.verdict.specs.Statements.{Guarantee, Passed}
-use Rattle.luad51.specs.Results.{verdict_number, verdict_of_number, refusal_in, figure_in, verdict_in, is_checked, is_pass, reading, answer_in, ReadAs, Reads, ReadsCheck, Guaranteed}
+use Rattle.luad51.specs.Results.{check_result, checked_bit, verdict_number, verdict_of_number, refusal_in, figure_in, verdict_in, is_checked, is_pass, reading, answer_in, ReadAs, Reads, ReadsCheck, Guaranteed}
 use Rattle.luad51.specs.Examples.{examples}
 use Rattle.luad51.proofs.ResultLaws.{answer_kept}
 
@@ -22,13 +23,30 @@ examples_hold = refl
 
 -- 0 is no pass: a result that nobody set
 pub no_pass_0 : is_pass 0 ≡ false
-unfolding is_pass is_checked
+unfolding is_pass
 no_pass_0 = refl
+
+-- a pass is exactly what has the bit of an accepted check, refusal 0, verdict 0 and none of bits 48 to 63
+pub pass_is : (result : ℕ) → (is_pass result ≡ true) ↔ ((is_checked result ≡ true) × (refusal_in result ≡ 0) × (verdict_in result ≡ 0) × (result / 2 ^ 48 ≡ 0))
+unfolding is_pass is_checked refusal_in verdict_in
+pass_is result = (
+  λ p.
+      let upper : result / 2 ^ 32 ≡ 2 ^ 15 = eqb-true _ _ p in
+      let set : result / checked_bit % 2 ≡ 1 = omega arith in
+      (rw set refl, omega arith, omega arith, omega arith),
+  λ (set, refusal, verdict, none).
+      let bit : result / checked_bit % 2 ≡ 1 = eqb-true _ _ set in
+      let upper : result / 2 ^ 32 ≡ 2 ^ 15 = omega arith in
+      rw upper refl,
+)
 
 -- without the bit of an accepted check there is no pass
 no_pass : (result refusal figure verdict : ℕ) → ReadAs result refusal figure verdict false → is_pass result ≡ false
-unfolding is_pass
-no_pass result refusal figure verdict r = rw r.checked_read
+no_pass result refusal figure verdict r = go (is_pass result) refl
+  where
+    go : (b : Bool) → is_pass result ≡ b → is_pass result ≡ false
+    go true e = true≢false (sym ((pass_is result).0 e).0 ∙ r.checked_read)
+    go false e = e
 
 -- so no result of the roles call or the bindings call is one
 pub no_pass_of_other_calls : (result : ℕ) (a : Answer ℕ) → Reads result a → is_pass result ≡ false
@@ -47,47 +65,64 @@ valid_by_number ValidForParser = (λ e. refl, λ e. refl)
 valid_by_number Incomplete = (λ e. true≢false (sym e), λ e. cc)
 valid_by_number Invalid = (λ e. true≢false (sym e), λ e. cc)
 
--- an accepted check's is one exactly with ValidForParser
-pub pass_iff_valid : (result : ℕ) (c : Checked) → ReadsCheck result (accepted c) → (is_pass result ≡ true) ↔ (c.verdict ≡ ValidForParser)
-unfolding ReadsCheck is_pass
-pass_iff_valid result c h = rw (h.checked_read, h.refusal_read, h.verdict_read) (valid_by_number c.verdict)
+passed_by_number : (v : Verdict) → nat_eq (2 ^ 8 * verdict_number v + 2 ^ 15) (2 ^ 15) ≡ nat_eq (verdict_number v) 0
+unfolding verdict_number
+passed_by_number ValidForParser = refl
+passed_by_number Incomplete = refl
+passed_by_number Invalid = refl
 
-both : (a b : Bool) → a && b ≡ true → (a ≡ true) × (b ≡ true)
-both true b e = (refl, e)
-both false b e = true≢false (sym e)
+-- an accepted check's is told by the verdict's number. (Its figure has 32 bits, as the accessors read it back.)
+passed_as : (result : ℕ) (c : Checked) → result ≡ check_result (accepted c) → ReadsCheck result (accepted c) → is_pass result ≡ nat_eq (verdict_number c.verdict) 0
+unfolding check_result ReadsCheck is_pass figure_in
+passed_as result c e h =
+    let small : c.count < 2 ^ 32 = omega (arith, h.figure_read) in
+    let upper : result / 2 ^ 32 ≡ 2 ^ 8 * verdict_number c.verdict + 2 ^ 15 = omega arith in
+    rw upper (passed_by_number c.verdict)
+
+-- an accepted check's is one exactly with ValidForParser
+pub pass_iff_valid : (result : ℕ) (c : Checked) → result ≡ check_result (accepted c) → ReadsCheck result (accepted c) → (is_pass result ≡ true) ↔ (c.verdict ≡ ValidForParser)
+pass_iff_valid result c e h = rw (passed_as result c e h) (valid_by_number c.verdict)
 
 -- a pass says that every prototype of the image keeps the rules and that every run of it is safe
 pub pass_guaranteed : (result : ℕ) (i : Image) → Guaranteed result i → is_pass result ≡ true → All Passed (image_protos i)
-unfolding Guaranteed is_pass answer_in verdict_of_number
+unfolding Guaranteed answer_in verdict_of_number
 pass_guaranteed result i g p =
-    let whole = both _ _ p in
-    let front = both _ _ whole.0 in
-    let none : refusal_in result ≡ 0 = eqb-true _ _ front.1 in
-    let valid : verdict_in result ≡ 0 = eqb-true _ _ whole.1 in
+    let (_, none, valid, _) = (pass_is result).0 p in
     (g none).valid (ap verdict_of_number valid)
 
 -- ---- no answer is lost
 
--- the four that are read give all five
-read_whole : (result refusal figure verdict : ℕ) (checked : Bool) → ReadAs result refusal figure verdict checked
-    → reading result ≡ record { refusal = refusal; figure = figure; verdict = verdict; checked = checked; passed = checked && nat_eq refusal 0 && nat_eq verdict 0 }
-unfolding reading is_pass
-read_whole result refusal figure verdict checked r = rw (r.refusal_read, r.figure_read, r.verdict_read, r.checked_read) refl
+-- the four that are read, and whether it is a pass
+read_whole : (result refusal figure verdict : ℕ) (checked passed : Bool) → ReadAs result refusal figure verdict checked → is_pass result ≡ passed
+    → reading result ≡ record { refusal = refusal; figure = figure; verdict = verdict; checked = checked; passed = passed }
+unfolding reading
+read_whole result refusal figure verdict checked passed r p = rw (r.refusal_read, r.figure_read, r.verdict_read, r.checked_read, p) refl
+
+-- and it is none without the bit of an accepted check
+read_unchecked : (result refusal figure verdict : ℕ) → ReadAs result refusal figure verdict false
+    → reading result ≡ record { refusal = refusal; figure = figure; verdict = verdict; checked = false; passed = false }
+read_unchecked result refusal figure verdict r = read_whole result _ _ _ _ _ r (no_pass result _ _ _ r)
 
 -- of an accepted roles call or bindings call the accessors read the number of records
 pub records_read : (result n : ℕ) → Reads result (accepted n) → reading result ≡ record { refusal = 0; figure = n; verdict = 0; checked = false; passed = false }
 unfolding Reads
-records_read result n h = read_whole result _ _ _ _ h
+records_read result n h = read_unchecked result _ _ _ h
 
 -- of a refused one they read why
 pub refusal_read : (result : ℕ) (r : Refused) → Reads result (refused r) → reading result ≡ record { refusal = r.number; figure = r.figure; verdict = 0; checked = false; passed = false }
 unfolding Reads
-refusal_read result r h = read_whole result _ _ _ _ h
+refusal_read result r h = read_unchecked result _ _ _ h
 
 -- and of a refused check
 pub check_refusal_read : (result : ℕ) (r : Refused) → ReadsCheck result (refused r) → reading result ≡ record { refusal = r.number; figure = r.figure; verdict = 0; checked = false; passed = false }
 unfolding ReadsCheck
-check_refusal_read result r h = read_whole result _ _ _ _ h
+check_refusal_read result r h = read_unchecked result _ _ _ h
+
+-- of an accepted check they read the number of diagnostics and the verdict's
+pub check_read : (result : ℕ) (c : Checked) → result ≡ check_result (accepted c) → ReadsCheck result (accepted c)
+    → reading result ≡ record { refusal = 0; figure = c.count; verdict = verdict_number c.verdict; checked = true; passed = nat_eq (verdict_number c.verdict) 0 }
+unfolding ReadsCheck
+check_read result c e h = read_whole result _ _ _ _ _ h (passed_as result c e h)
 
 -- of an accepted check all is guaranteed that its answer guarantees
 pub guarantee_kept : (result : ℕ) (i : Image) (c : Checked) → ReadsCheck result (accepted c) → Guaranteed result i → Guarantee i c

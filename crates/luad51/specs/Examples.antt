@@ -40,6 +40,11 @@ examples =
     ∷ example 0x00007f0000000000 0 0 127 false false
     ∷ example 0x000000ff00000000 255 0 0 false false
     ∷ example 0x000080ff00000000 255 0 0 true false
-    ∷ example 0xffff800000000000 0 0 0 true true
+    ∷ example 0x0000ff0000000000 0 0 127 true false
+    -- of no call, with some of bits 48 to 63
+    ∷ example 0x0001800000000000 0 0 0 true false
+    ∷ example 0x8000800000000001 0 1 0 true false
+    ∷ example 0xffff800000000000 0 0 0 true false
     ∷ example 0xffff7fffffffffff 255 4294967295 127 false false
+    ∷ example 0xffffffffffffffff 255 4294967295 127 true false
     ∷ []

@@ -7,7 +7,7 @@ use Rattle.opcodes.specs.Lists.{up_from}
 use Rattle.opcodes.specs.Bytes.{overwrite}
 use Rattle.chunk.specs.Table.{Row, rows, child_of_row, proto_in}
 use Rattle.chunk.specs.Bindings.{Binding, Write, binding_of, writes, first_binding, binding_total, binding_bytes, binding_records}
-use Rattle.chunk.specs.Refusals.{word_total}
+use Rattle.chunk.specs.Refusals.{max_rows, max_upvalues, word_total}
 use Rattle.roles.specs.declared.discovery.Companions.{Companions}
 use Rattle.roles.specs.declared.discovery.Companions.TheVariants.{None, Bindings, Extra}
 
@@ -53,9 +53,9 @@ bound_rows table words n out = foldl (bound_row table words) out (up_from 0 n)
 
 -- ---- what the code needs
 
--- an accepted table has at most 16,384 rows of 255 upvalues
+-- an accepted table has at most so many rows of so many upvalues
 abbrev pub max_bindings : ℕ
-max_bindings = 4177920
+max_bindings = max_rows * max_upvalues
 
 -- a buffer of so many bytes has room for all records of the table, or for none: room for one is room for all
 abbrev pub RoomForAllOrNone : List ℕ → ℕ → Type 0

@@ -20,7 +20,7 @@ use Rattle.chunk.proofs.TotalLaws.{words_front, words_next}
 use Rattle.chunk.proofs.WrittenLaws.{accepted_none}
 use Rattle.verdict.specs.Check.{Checked, checked, check_refusal, check_answer, diagnostics_after}
 use Rattle.verdict.specs.Image.{Image, diagnostics}
-use Rattle.verdict.specs.Statements.{Accepted, Guarantee}
+use Rattle.verdict.specs.Statements.{Guarantee}
 use Rattle.verdict.specs.Walk.{max_diagnostics, most_diagnostics, diagnostic_fields, diagnostic_bytes}
 use Rattle.verdict.proofs.GuaranteeLaws.{check_guaranteed}
 use Rattle.verdict.proofs.LimitLaws.{at_most}
@@ -84,7 +84,6 @@ module _ (table words records : List ℕ) (f : Filled table words records) where
   -- and walks the image
   pub walked : (warnings errors stop : ℕ) (old : List ℕ) (s : State) → stop ≡ max_diagnostics - (warnings + errors)
       → s ≡ walk_to table words (row_at table 0).depth (step_row table words (record { row = 0; first = 0; stop = stop; count = 0; error = false; limit = false }, old)) → Walked (image_of table words warnings errors) old s
-  unfolding Accepted
   walked warnings errors stop old s e g =
       let i = image_of table words warnings errors in
       let same : s ≡ walk_to table words (row_at table 0).depth (step_row table words (begun (warnings + errors) old)) =
@@ -187,7 +186,7 @@ module _ (i : Image) (records : List ℕ) (a : Result ℕ Refusal) (judgedRoles 
 
   -- the largest number of diagnostics fits
   pub most_fit : (n len : ℕ) → a ≡ Ok n → most_diagnostics ≤ len / diagnostic_bytes → diagnostic_bytes * length (diagnostics i) ≤ len
-  unfolding Accepted roles_refusal
+  unfolding roles_refusal
   most_fit n len e h = omega (arith, at_most i (or_else_none _ _ (not_refused n e)).0)
 
 -- demand 3, from the answer

@@ -7,12 +7,11 @@ use borrow.Author.Tests.{lt-leb}
 use Rattle.opcodes.specs.Bytes.{u32s, u32_record, i32_bits, i32_record, overwrite}
 use Rattle.opcodes.specs.Lists.{All, all_nil, all_cons, any}
 use Rattle.chunk.specs.Table.{Row, row_bytes, row_at, rows, protos_of, protos, proto_in}
-use Rattle.chunk.specs.Refusals.{word_total, bad_depth}
+use Rattle.chunk.specs.Refusals.{word_total, bad_depth, image_refusal}
 use Rattle.verdict.specs.Diagnostics.{Diagnostic, is_error, Step, proto_steps}
 use Rattle.verdict.specs.Walk.{RowDiagnostic, in_row, max_diagnostics, Walk, start, count_n, advance, walk_row, walk_from, walk, limit_reached, has_errors, diagnostic_fields, diagnostic_bytes, error_in}
 use Rattle.verdict.specs.Image.{Image, image_protos, image_walk, diagnostics, verdict}
 use Rattle.verdict.specs.Check.{checked}
-use Rattle.verdict.specs.Statements.{Accepted}
 use Rattle.validator.specs.Steps.{State, emitted, emit, emit_all, ended, take_step, moved_to, own_steps, onward, step_row, walk_for, walk_to, written, Walked}
 use Rattle.validator.specs.Terms.{concluded}
 use Rattle.opcodes.proofs.TestLaws.{or_false, by_cond}
@@ -218,7 +217,7 @@ module _ (i : Image) (old : List ℕ) where
   done_walked : (n d : ℕ) (s : State) → Done s → Walked i old (walk_for i.table i.words n d s)
   done_walked n d s e = subst⁻¹ (Walked i old) (walk_limited i.table i.words n d s e.limit) e.walked
 
-  module _ (accepted : Accepted i) where
+  module _ (accepted : image_refusal i.table i.words ≡ none) where
     -- row k's own steps: what they find is among all that is found, so the count fits
     own_match : (k : ℕ) (v : Walk) (s : State) → k < length i.table / row_bytes → Arrives k v s → Matches incoming k (first_of k) old (walk_row incoming k v (own k)) (own_steps i.table i.words s)
     unfolding own_steps diagnostics
@@ -292,9 +291,9 @@ start_arrives i old =
     record { matches = record { row_is = refl; first_is = refl; stop = refl; count = refl; error = refl; limit = refl; buffer = refl }; rest = refl }
 
 -- row 0, and then all others, since they are deeper
-pub image_walked : (i : Image) (old : List ℕ) → Accepted i
+pub image_walked : (i : Image) (old : List ℕ) → image_refusal i.table i.words ≡ none
     → Walked i old (walk_to i.table i.words (row_at i.table 0).depth (step_row i.table i.words (begun (i.warnings + i.errors) old)))
-unfolding walk_to Accepted
+unfolding walk_to
 image_walked i old accepted =
     let table = i.table in
     let kept = image_kept table i.words accepted in

@@ -8,13 +8,13 @@ use lib.ListN.{length, drop}
 use mathlib.Core.Option.{none}
 use Rattle.opcodes.specs.Bytes.{i32_record}
 use Rattle.chunk.specs.Table.{rows}
-use Rattle.chunk.specs.Roles.{roles, records_of}
-use Rattle.chunk.specs.Refusals.{Refused, roles_refusal, word_total}
+use Rattle.chunk.specs.Roles.{roles, role_bytes, records_of}
+use Rattle.chunk.specs.Refusals.{Refused, image_refusal, roles_refusal, word_total}
 use Rattle.chunk.specs.Calls.{accepted, refused, roles_after, bindings_answer, bindings_after}
-use Rattle.verdict.specs.Walk.{Verdict, most_diagnostics, diagnostic_fields}
+use Rattle.verdict.specs.Walk.{Verdict, most_diagnostics, diagnostic_fields, diagnostic_bytes}
 use Rattle.verdict.specs.Image.{Image, image_protos, diagnostics, verdict}
 use Rattle.verdict.specs.Check.{Checked, checked, check_refusal, check_answer, diagnostics_after}
-use Rattle.verdict.specs.Statements.{Accepted, Guarantee, RolesLeft}
+use Rattle.verdict.specs.Statements.{Guarantee, RolesLeft}
 use Rattle.opcodes.proofs.AllLaws.{all_imp, all_of}
 use Rattle.chunk.proofs.UntouchedLaws.{refused_leaves, roles_left, bindings_untouched, bindings_roles_left}
 use Rattle.opcodes.proofs.ListLaws.{length_flat_map}
@@ -28,13 +28,13 @@ use Rattle.verdict.proofs.LimitLaws.{at_most}
 verdict_iff : {u v w : Verdict} {X : Type 0} → u ≡ v → (v ≡ w) ↔ X → (u ≡ w) ↔ X
 verdict_iff e i = (λ q. i.0 (sym e ∙ q), λ x. e ∙ i.1 x)
 
-pub check_guaranteed : (i : Image) (role_length diagnosticLength : ℕ) (c : Checked) → check_answer i role_length diagnosticLength ≡ accepted c → Guarantee i c
-unfolding check_answer check_refusal checked roles_refusal Accepted
-check_guaranteed i role_length diagnosticLength c e =
-    let k = accepted_result (check_refusal i role_length diagnosticLength) (checked i) c e in
+pub check_guaranteed : (i : Image) (role_length diagnostics_length : ℕ) (c : Checked) → check_answer i role_length diagnostics_length ≡ accepted c → Guarantee i c
+unfolding check_answer check_refusal checked roles_refusal
+check_guaranteed i role_length diagnostics_length c e =
+    let k = accepted_result (check_refusal i role_length diagnostics_length) (checked i) c e in
     let v : c.verdict ≡ verdict i = ap (λ (x : Checked). x.verdict) k in
     let n : c.count ≡ length (diagnostics i) = ap (λ (x : Checked). x.count) k in
-    let a : Accepted i = (or_else_none _ _ (or_else_none _ _ (accepted_none (check_refusal i role_length diagnosticLength) (checked i) c e)).0).0 in
+    let a : image_refusal i.table i.words ≡ none = (or_else_none _ _ (or_else_none _ _ (accepted_none (check_refusal i role_length diagnostics_length) (checked i) c e)).0).0 in
     record {
       verdict = v;
       count = n;
@@ -51,32 +51,32 @@ roles_of_refused : (table words old : List ℕ) (r : Refused) → (r.number ≡ 
 roles_of_refused table words old r met left = record { written = λ h. roles_written table words old (met h); untouched = left }
 
 -- a refused bindings call or check call leaves its buffers, but 8 comes with the roles written
-pub bindings_leaves : (table words roleBuffer bindings : List ℕ) (r : Refused) → bindings_answer table words (length roleBuffer) (length bindings) ≡ refused r
-    → (bindings_after table words (length roleBuffer) bindings ≡ bindings) × RolesLeft table words roleBuffer r
-bindings_leaves table words roleBuffer bindings r e =
-    let left = bindings_roles_left table words roleBuffer bindings r e in
-    (bindings_untouched table words roleBuffer bindings r e, roles_of_refused table words roleBuffer r left.0 left.1)
+pub bindings_leaves : (table words role_buffer bindings : List ℕ) (r : Refused) → bindings_answer table words (length role_buffer) (length bindings) ≡ refused r
+    → (bindings_after table words (length role_buffer) bindings ≡ bindings) × RolesLeft table words role_buffer r
+bindings_leaves table words role_buffer bindings r e =
+    let left = bindings_roles_left table words role_buffer bindings r e in
+    (bindings_untouched table words role_buffer bindings r e, roles_of_refused table words role_buffer r left.0 left.1)
 
-pub check_leaves : (i : Image) (roleBuffer buffer : List ℕ) (r : Refused) → check_answer i (length roleBuffer) (length buffer) ≡ refused r
-    → (diagnostics_after i (length roleBuffer) buffer ≡ buffer) × RolesLeft i.table i.words roleBuffer r
+pub check_leaves : (i : Image) (role_buffer buffer : List ℕ) (r : Refused) → check_answer i (length role_buffer) (length buffer) ≡ refused r
+    → (diagnostics_after i (length role_buffer) buffer ≡ buffer) × RolesLeft i.table i.words role_buffer r
 unfolding check_answer check_refusal diagnostics_after
-check_leaves i roleBuffer buffer r e =
-    let left = roles_left i.table i.words roleBuffer _ _ _ _ r e in
-    (refused_leaves (check_refusal i (length roleBuffer) (length buffer)) _ r buffer _ e, roles_of_refused i.table i.words roleBuffer r left.0 left.1)
+check_leaves i role_buffer buffer r e =
+    let left = roles_left i.table i.words role_buffer _ _ _ _ r e in
+    (refused_leaves (check_refusal i (length role_buffer) (length buffer)) _ r buffer _ e, roles_of_refused i.table i.words role_buffer r left.0 left.1)
 
 -- an accepted one leaves its records in front of both buffers
-pub check_written : (i : Image) (roleBuffer buffer : List ℕ) (c : Checked) → check_answer i (length roleBuffer) (length buffer) ≡ accepted c
-    → (diagnostics_after i (length roleBuffer) buffer ≡ i32_record (flat_map diagnostic_fields (diagnostics i)) ++ drop (16 * length (diagnostics i)) buffer)
-    × (roles_after i.table i.words roleBuffer ≡ records_of (flat_map roles (image_protos i)) ++ drop (8 * word_total (rows i.table)) roleBuffer)
+pub check_written : (i : Image) (role_buffer buffer : List ℕ) (c : Checked) → check_answer i (length role_buffer) (length buffer) ≡ accepted c
+    → (diagnostics_after i (length role_buffer) buffer ≡ i32_record (flat_map diagnostic_fields (diagnostics i)) ++ drop (diagnostic_bytes * length (diagnostics i)) buffer)
+    × (roles_after i.table i.words role_buffer ≡ records_of (flat_map roles (image_protos i)) ++ drop (role_bytes * word_total (rows i.table)) role_buffer)
 unfolding check_answer check_refusal diagnostics_after diagnostic_fields image_protos
-check_written i roleBuffer buffer c e =
+check_written i role_buffer buffer c e =
     let ds = diagnostics i in
     let zs = flat_map diagnostic_fields ds in
-    let n = accepted_none (check_refusal i (length roleBuffer) (length buffer)) (checked i) c e in
-    let o = or_else_none (roles_refusal i.table i.words (length roleBuffer)) _ n in
+    let n = accepted_none (check_refusal i (length role_buffer) (length buffer)) (checked i) c e in
+    let o = or_else_none (roles_refusal i.table i.words (length role_buffer)) _ n in
     let room = fits (length ds) _ (length buffer) o.1 in
     let count : length zs ≡ 4 * length ds = length_flat_map diagnostic_fields 4 (λ d. refl) ds in
     let size : 4 * length zs ≡ 16 * length ds = omega arith in (
-      written (check_refusal i (length roleBuffer) (length buffer)) buffer zs n (omega arith) ∙ ap (λ (k : ℕ). i32_record zs ++ drop k buffer) size,
-      roles_written i.table i.words roleBuffer o.0,
+      written (check_refusal i (length role_buffer) (length buffer)) buffer zs n (omega arith) ∙ ap (λ (k : ℕ). i32_record zs ++ drop k buffer) size,
+      roles_written i.table i.words role_buffer o.0,
     )

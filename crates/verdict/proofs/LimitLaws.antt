@@ -18,9 +18,10 @@ use Rattle.chunk.proofs.TableLaws.{children_most}
 use Rattle.chunk.specs.Roles.{is_executable, role_at, executable_at, word_at, binding_count, existing, binding_words}
 use Rattle.verdict.specs.Operands.{is_unknown, is_binding, is_jump, target, is_skip, is_loadbool_skip, skip_target, constant_bx, upvalue_b, flag_a, register_a, span_ends, register_in, constant_in, child_bx, captured_register, captured_upvalue}
 use Rattle.verdict.specs.Diagnostics.{Diagnostic, diagnostic, opcode_value, not_below, truncation_at, has_large_stack, stack_diagnostics, opcode_diagnostics, target_diagnostics, jump_diagnostics, skip_diagnostics, binding_diagnostics, operand_diagnostics, known_diagnostics, word_diagnostics, diagnostics_at, Step, tested_step, untested_step, proto_steps}
+use Rattle.chunk.specs.Refusals.{image_refusal}
+use Rattle.std.proofs.Math.Option.{none}
 use Rattle.verdict.specs.Walk.{in_row, Walk, max_diagnostics, most_diagnostics, count_n, start, advance, walk_row, walk_from, walk}
 use Rattle.verdict.specs.Image.{Image, image_protos, image_walk, diagnostics}
-use Rattle.verdict.specs.Statements.{Accepted}
 use Rattle.opcodes.proofs.AllLaws.{all_get_d, all_imp}
 use Rattle.opcodes.proofs.ListLaws.{length_up_from, select_most}
 use Rattle.opcodes.proofs.TestLaws.{is_not, is_among, true≢false, or_false, t_true, by_cond, disjoint}
@@ -264,8 +265,8 @@ walk_within incoming row [] v h k = k
 walk_within incoming row (p ∷ ps) v (all_cons h hs) k = walk_within incoming (suc row) ps (walk_row incoming row v (proto_steps p)) hs (row_within incoming row p v h k)
 
 -- an accepted image
-pub at_most : (i : Image) → Accepted i → length (diagnostics i) ≤ most_diagnostics
-unfolding Accepted diagnostics image_walk image_protos protos walk
+pub at_most : (i : Image) → image_refusal i.table i.words ≡ none → length (diagnostics i) ≤ most_diagnostics
+unfolding diagnostics image_walk image_protos protos walk
 at_most i a =
     let kept = image_kept i.table i.words a in
     let few = children_most 255 (rows i.table) (u32s i.words) (all_imp (λ r h. h.upvalues) kept.fields) in

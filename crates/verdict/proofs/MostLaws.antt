@@ -22,9 +22,9 @@ use Rattle.verdict.proofs.WalkLaws.{advance_going}
 use Rattle.verdict.proofs.TreeLaws.{Begins, begins, advance_ended, proto_begins}
 use Rattle.opcodes.specs.Bytes.{u32_at, u32_bytes, u32_record}
 use Rattle.chunk.specs.Table.{row_at, rows, below, children, proto_of, protos_of, protos}
+use mathlib.Core.Option.{none}
 use Rattle.chunk.specs.Refusals.{refuse_if, or_else, depth_fits, bad_depth, fields_fit, bad_field, word_total, image_refusal}
 use Rattle.verdict.specs.Image.{Image, image_protos, image_walk, diagnostics}
-use Rattle.verdict.specs.Statements.{Accepted}
 use Rattle.opcodes.proofs.ByteLaws.{length_u32_record, u32s_record}
 use Rattle.opcodes.proofs.AllLaws.{all_append, all_up_from, all_up_to, flat_map_none}
 use Rattle.opcodes.proofs.ListLaws.{length_up_from, length_tabulate}
@@ -251,8 +251,8 @@ full_rows : rows full_table
 unfolding full_table rows row_at u32_at u32_record u32_bytes flat_map
 full_rows = refl
 
-pub fullest_accepted : Accepted fullest
-unfolding Accepted fullest image_refusal refuse_if or_else bad_depth depth_fits bad_field fields_fit word_total
+pub fullest_accepted : image_refusal (fullest).table (fullest).words ≡ none
+unfolding fullest image_refusal refuse_if or_else bad_depth depth_fits bad_field fields_fit word_total
 fullest_accepted = rw (length_table, full_rows, length_words)
 
 junk_small : (n : ℕ) → All (λ w. w < 2 ^ 32) (replicate n junk)

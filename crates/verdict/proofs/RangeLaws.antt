@@ -331,10 +331,10 @@ diagnostics_held i e =
     all_imp (λ d r. record { row = omega (arith, r.row); held = r.held }) (diagnostics_in_range i e)
 
 -- and those of an accepted check call
-pub check_held : (i : Image) (role_length diagnosticLength : ℕ) (c : Checked) → check_answer i role_length diagnosticLength ≡ accepted c → All (InRange (2 ^ 31)) (diagnostics i)
+pub check_held : (i : Image) (role_length diagnostics_length : ℕ) (c : Checked) → check_answer i role_length diagnostics_length ≡ accepted c → All (InRange (2 ^ 31)) (diagnostics i)
 unfolding check_answer check_refusal roles_refusal
-check_held i role_length diagnosticLength c e =
-    diagnostics_held i (or_else_none _ _ (or_else_none _ _ (accepted_none (check_refusal i role_length diagnosticLength) (checked i) c e)).0).0
+check_held i role_length diagnostics_length c e =
+    diagnostics_held i (or_else_none _ _ (or_else_none _ _ (accepted_none (check_refusal i role_length diagnostics_length) (checked i) c e)).0).0
 
 -- the four i32 of such a diagnostic
 pub fields_signed : (d : RowDiagnostic) → InRange (2 ^ 31) d → All Signed32 (diagnostic_fields d)

@@ -2,14 +2,14 @@
 use Rattle.std.specs.Prelude.{◌≡◌, refl, ℕ, suc, ◌+◌, ◌<◌, ◌≤◌, Bool, true, false, not, ◌||◌, cond, List, [], ◌∷◌, ◌++◌, T, eqb, length, ltb, ℤ, pos, negsuc}
 use native.Mathlib.Omega.{arith}
 use mathlib.Core.Path.{sym, ◌∙◌, ap, subst}
-use borrow.Author.Tests.{lt-ltb, le-ltb}
-use Rattle.opcodes.specs.Words.{is, opcode, operand, C, JMP, FORPREP, FORLOOP, RETURN, TAILCALL, LOADBOOL, CLOSURE, SETLIST}
+use borrow.Author.Tests.{lt-ltb}
+use Rattle.opcodes.specs.Words.{is, opcode, operand, C, JMP, FORPREP, FORLOOP, RETURN, TAILCALL, EQ, LT, LE, TEST, TESTSET, LOADBOOL, TFORLOOP, CLOSURE, SETLIST}
 use Rattle.opcodes.proofs.TestLaws.{t_true, t_false, t_and, or_false, true≢false, by_cond, subset, is_not, is_among}
 use Rattle.chunk.specs.Table.{Proto}
 use Rattle.chunk.specs.Roles.{word_at, owned, existing, companions}
 use Rattle.chunk.proofs.RoleLaws.{owns_nothing}
 use Rattle.verdict.specs.Operands.{is_skip, is_loadbool_skip, skip_target, conditional_skips, target}
-use Rattle.verdict.specs.Statements.{goes_elsewhere, GoesAsTold, ArrivesAsTold, LeavesOnlyThere, GoesOn, GoesOnFrom}
+use Rattle.verdict.specs.Statements.{GaveOut}
 use Rattle.verdict.specs.Executions.{Exit, ended_at, no_word_at, out_of_choices, State, at, left, arrive, next, meet, run_from, run, MayLeave}
 
 -- a test that passes twice
@@ -32,8 +32,8 @@ no_companions : (p : Proto) (pc : ℕ) → owned p pc ≡ 0 → arrive p (pos (p
 unfolding companions existing
 no_companions p pc e = ap (λ (n : ℕ). arrive p (pos n)) (omega arith)
 
--- and an owner past its companions, whichever it is
-owner_goes : (p : Proto) (pc : ℕ) (choice : Bool) → T (is (word_at p pc) (CLOSURE ∷ SETLIST ∷ [])) → next p pc choice ≡ arrive p (pos (pc + 1 + companions p pc))
+-- and an owner past its companions
+pub owner_goes : (p : Proto) (pc : ℕ) (choice : Bool) → T (is (word_at p pc) (CLOSURE ∷ SETLIST ∷ [])) → next p pc choice ≡ arrive p (pos (pc + 1 + companions p pc))
 unfolding next is_skip is_loadbool_skip
 owner_goes p pc choice t =
     let w = word_at p pc in
@@ -48,8 +48,12 @@ is_no w these those s e = go (is w those) refl
     go true q = true≢false (sym (t_true (is w these) (is_among w those these s (subst T (sym q) tt))) ∙ e)
     go false q = q
 
+-- the words that go elsewhere than to the next word, but for LOADBOOL
+abbrev pub goes_elsewhere : List ℕ
+goes_elsewhere = JMP ∷ FORPREP ∷ FORLOOP ∷ EQ ∷ LT ∷ LE ∷ TEST ∷ TESTSET ∷ TFORLOOP ∷ CLOSURE ∷ SETLIST ∷ RETURN ∷ TAILCALL ∷ []
+
 -- each other word goes on
-other_goes : (p : Proto) (pc : ℕ) (choice : Bool) → T (not (is (word_at p pc) goes_elsewhere || is_loadbool_skip (word_at p pc))) → next p pc choice ≡ arrive p (pos (pc + 1))
+pub other_goes : (p : Proto) (pc : ℕ) (choice : Bool) → T (not (is (word_at p pc) goes_elsewhere || is_loadbool_skip (word_at p pc))) → next p pc choice ≡ arrive p (pos (pc + 1))
 unfolding next is_skip
 other_goes p pc choice t =
     let w = word_at p pc in
@@ -58,41 +62,55 @@ other_goes p pc choice t =
     rw (no (JMP ∷ FORPREP ∷ []) tt, no (FORLOOP ∷ []) tt, none.1, no conditional_skips tt, no (RETURN ∷ []) tt, no (TAILCALL ∷ []) tt)
     (no_companions p pc (owns_nothing p pc (no (CLOSURE ∷ []) tt) (no (SETLIST ∷ []) tt)))
 
--- where a step goes, by each kind of word
-pub goes : (p : Proto) (pc : ℕ) → GoesAsTold p pc
-unfolding next is_skip is_loadbool_skip skip_target
-goes p pc =
-    let w = word_at p pc in
-    let jump = JMP ∷ FORPREP ∷ [] in
-    let loop = FORLOOP ∷ [] in
-    let return = RETURN ∷ [] in
-    let call = TAILCALL ∷ [] in
-    record {
-      jumps = λ t choice. rw (t_true (is w jump) t);
-      loops = λ t. (rw (is_not w loop jump tt t, t_true (is w loop) t), rw (is_not w loop jump tt t, t_true (is w loop) t));
-      skips = λ t.
-          let skip = conditional_skips in
-          (rw (is_not w skip jump tt t, is_not w skip loop tt t, is_not w skip (LOADBOOL ∷ []) tt t, t_true (is w skip) t), rw (is_not w skip jump tt t, is_not w skip loop tt t, is_not w skip (LOADBOOL ∷ []) tt t, t_true (is w skip) t));
-      loadbool = λ t choice.
-          let both = t_and (is w (LOADBOOL ∷ [])) (ltb 0 (operand C w)) t in
-          rw (is_not w (LOADBOOL ∷ []) jump tt both.0, is_not w (LOADBOOL ∷ []) loop tt both.0, t_true _ both.0, t_true _ both.1);
-      owns = λ t choice. owner_goes p pc choice t;
-      returns = λ t choice.
-          rw (is_not w return jump tt t, is_not w return loop tt t, is_not w return (LOADBOOL ∷ []) tt t, is_not w return conditional_skips tt t, t_true (is w return) t);
-      tailcall = λ t.
-          (rw (is_not w call jump tt t, is_not w call loop tt t, is_not w call (LOADBOOL ∷ []) tt t, is_not w call conditional_skips tt t, is_not w call return tt t, t_true (is w call) t), rw (is_not w call jump tt t, is_not w call loop tt t, is_not w call (LOADBOOL ∷ []) tt t, is_not w call conditional_skips tt t, is_not w call return tt t, t_true (is w call) t));
-      others = λ t choice. other_goes p pc choice t;
-    }
+-- where a step goes from each other kind of word
+module _ (p : Proto) (pc : ℕ) where
+  abbrev w : ℕ
+  w = word_at p pc
 
--- and what it comes to
-pub arrives : (p : Proto) → ArrivesAsTold p
-unfolding arrive
-arrives p =
-    record {
-      inside = λ n h. rw (lt-ltb n (length p.code) h);
-      past = λ n h. rw (le-ltb n (length p.code) h);
-      before = λ n. refl;
-    }
+  abbrev jump : List ℕ
+  jump = JMP ∷ FORPREP ∷ []
+
+  abbrev loop : List ℕ
+  loop = FORLOOP ∷ []
+
+  abbrev load : List ℕ
+  load = LOADBOOL ∷ []
+
+  abbrev return : List ℕ
+  return = RETURN ∷ []
+
+  abbrev call : List ℕ
+  call = TAILCALL ∷ []
+
+  pub jump_goes : (choice : Bool) → T (is w jump) → next p pc choice ≡ arrive p (target pc w)
+  unfolding next
+  jump_goes choice t = rw (t_true (is w jump) t)
+
+  pub loop_goes : (choice : Bool) → T (is w loop) → next p pc choice ≡ cond choice (arrive p (target pc w)) (arrive p (pos (pc + 1)))
+  unfolding next
+  loop_goes choice t = rw (is_not w loop jump tt t, t_true (is w loop) t)
+
+  pub skip_goes : (choice : Bool) → T (is w conditional_skips) → next p pc choice ≡ cond choice (arrive p (pos (pc + 2))) (arrive p (pos (pc + 1)))
+  unfolding next is_skip is_loadbool_skip skip_target
+  skip_goes choice t =
+      let skip = conditional_skips in
+      rw (is_not w skip jump tt t, is_not w skip loop tt t, is_not w skip load tt t, t_true (is w skip) t)
+
+  pub loadbool_goes : (choice : Bool) → T (is_loadbool_skip w) → next p pc choice ≡ arrive p (pos (pc + 2))
+  unfolding next is_loadbool_skip skip_target
+  loadbool_goes choice t =
+      let both = t_and (is w load) (ltb 0 (operand C w)) t in
+      rw (is_not w load jump tt both.0, is_not w load loop tt both.0, t_true _ both.0, t_true _ both.1)
+
+  pub return_ends : (choice : Bool) → T (is w return) → next p pc choice ≡ left (ended_at pc)
+  unfolding next is_skip is_loadbool_skip
+  return_ends choice t =
+      rw (is_not w return jump tt t, is_not w return loop tt t, is_not w return load tt t, is_not w return conditional_skips tt t, t_true (is w return) t)
+
+  pub tailcall_goes : (choice : Bool) → T (is w call) → next p pc choice ≡ cond choice (left (ended_at pc)) (arrive p (pos (pc + 1)))
+  unfolding next is_skip is_loadbool_skip
+  tailcall_goes choice t =
+      rw (is_not w call jump tt t, is_not w call loop tt t, is_not w call load tt t, is_not w call conditional_skips tt t, is_not w call return tt t, t_true (is w call) t)
 
 -- "It starts at place 0", where there is a word
 pub starts_at_0 : (p : Proto) (choices : List Bool) → 0 < length p.code → (rest : List ℕ) × ((run p choices).met ≡ 0 ∷ rest)
@@ -107,7 +125,7 @@ empty_meets_none p [] e = rw e
 empty_meets_none p (choice ∷ choices) e = rw e
 
 -- a run that has left meets nothing more, however many choices follow
-pub left_meets_no_more : (p : Proto) (s : State) (xs ys : List Bool) → (GoesOn (run_from p xs s).exit → ⊥) → run_from p (xs ++ ys) s ≡ run_from p xs s
+pub left_meets_no_more : (p : Proto) (s : State) (xs ys : List Bool) → (GaveOut (run_from p xs s).exit → ⊥) → run_from p (xs ++ ys) s ≡ run_from p xs s
 unfolding run_from meet
 left_meets_no_more p (left e) [] [] n = refl
 left_meets_no_more p (left e) [] (y ∷ ys) n = refl
@@ -118,7 +136,7 @@ left_meets_no_more p (at pc) (x ∷ xs) ys n = ap (meet pc) (left_meets_no_more 
 -- A run is at a word, or it has left. (As a state alone, `left out_of_choices` is neither; no run comes to it)
 abbrev Stands : State → Type 0
 Stands (at pc) = Unit {0}
-Stands (left e) = GoesOn e → ⊥
+Stands (left e) = GaveOut e → ⊥
 
 arrive_stands : (p : Proto) (z : ℤ) → Stands (arrive p z)
 unfolding arrive
@@ -139,7 +157,15 @@ next_stands p pc choice =
     (λ _. by_cond Stands (is w (TAILCALL ∷ [])) _ _ (λ _. by_cond Stands choice _ _ (λ _. ended) (λ _. on _))
     (λ _. on _))))))
 
-from_stands : (p : Proto) (s : State) (xs : List Bool) → Stands s → GoesOn (run_from p xs s).exit → GoesOnFrom p s xs
+-- such a run met a word for each choice and then the one that it stands at; with more choices it meets, after the same words, what a run from there meets
+pub record GoesOnFrom (p : Proto) (s : State) (choices : List Bool) : Type 0 where
+  pub before : List ℕ
+  pub each : length before ≡ length choices
+  pub stands : ℕ
+  pub met : (run_from p choices s).met ≡ before ++ (stands ∷ [])
+  pub rest : (more : List Bool) → run_from p (choices ++ more) s ≡ record { met = before ++ (run_from p more (at stands)).met; exit = (run_from p more (at stands)).exit }
+
+from_stands : (p : Proto) (s : State) (xs : List Bool) → Stands s → GaveOut (run_from p xs s).exit → GoesOnFrom p s xs
 unfolding run_from meet
 from_stands p (left e) [] n g = absurd (n g)
 from_stands p (at pc) [] n g = record { before = []; stands = pc; each = refl; met = refl; rest = λ ys. refl }
@@ -149,9 +175,11 @@ from_stands p (at pc) (x ∷ xs) n g =
     record { before = pc ∷ r.before; stands = r.stands; each = ap suc r.each; met = ap (λ (l : List ℕ). pc ∷ l) r.met; rest = λ ys. ap (meet pc) (r.rest ys) }
 
 -- a run of xs ++ ys goes on where that of xs stands
-pub goes_on_lem : (p : Proto) (xs : List Bool) → GoesOn (run p xs).exit → GoesOnFrom p (arrive p (pos 0)) xs
+pub goes_on_from : (p : Proto) (xs : List Bool) → GaveOut (run p xs).exit → GoesOnFrom p (arrive p (pos 0)) xs
 unfolding run
-goes_on_lem p xs g = from_stands p (arrive p (pos 0)) xs (arrive_stands p (pos 0)) g
+goes_on_from p xs g = from_stands p (arrive p (pos 0)) xs (arrive_stands p (pos 0)) g
+
+-- ---- a safe run leaves only where it may
 
 -- how a run stands, by kind
 abbrev IsEnd : Exit → Type 0
@@ -170,9 +198,13 @@ Past p (ended_at pc) = ⊥
 Past p (no_word_at z) = (n : ℕ) × (z ≡ pos n) × (length p.code ≤ n)
 Past p out_of_choices = ⊥
 
--- a safe run leaves only where it may
-pub leaves_only_there : (p : Proto) (e : Exit) → MayLeave p e → LeavesOnlyThere p e
-leaves_only_there p (ended_at pc) m = record { ended = λ n q. subst (λ (x : Exit). MayLeave p x) q m; no_word = λ z q. absurd (subst IsEnd q tt) }
-leaves_only_there p (no_word_at (pos n)) m = record { ended = λ pc q. absurd (subst IsGone q tt); no_word = λ z q. subst (Past p) q (n, refl, m) }
-leaves_only_there p (no_word_at (negsuc n)) m = absurd m
-leaves_only_there p out_of_choices m = record { ended = λ pc q. absurd (subst GoesOn q tt); no_word = λ z q. absurd (subst GoesOn q tt) }
+pub ends_there : (p : Proto) (e : Exit) (pc : ℕ) → MayLeave p e → e ≡ ended_at pc → T (is (word_at p pc) (RETURN ∷ TAILCALL ∷ []))
+ends_there p (ended_at n) pc m q = subst (λ (x : Exit). MayLeave p x) q m
+ends_there p (no_word_at z) pc m q = absurd (subst IsGone q tt)
+ends_there p out_of_choices pc m q = absurd (subst GaveOut q tt)
+
+pub goes_past : (p : Proto) (e : Exit) (z : ℤ) → MayLeave p e → e ≡ no_word_at z → (n : ℕ) × (z ≡ pos n) × (length p.code ≤ n)
+goes_past p (ended_at pc) z m q = absurd (subst IsEnd q tt)
+goes_past p (no_word_at (pos n)) z m q = subst (Past p) q (n, refl, m)
+goes_past p (no_word_at (negsuc n)) z m q = absurd m
+goes_past p out_of_choices z m q = absurd (subst GaveOut q tt)

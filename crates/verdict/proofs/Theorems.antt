@@ -3,13 +3,14 @@
 use Prim.Native.Nat.{ℕ, ◌+◌, ◌*◌, ◌≤◌, ◌<◌}
 use mathlib.Core.Path.{◌≡◌, refl, ◌∙◌, subst⁻¹}
 use mathlib.Core.Logic.{◌↔◌, ◌⊎◌}
-use mathlib.Core.Bool.{Bool, true, false, not}
+use mathlib.Core.Bool.{Bool, true, false, not, ◌&&◌, ◌||◌, cond}
 use mathlib.Core.List.{List, [], ◌∷◌, ◌++◌, map, flat_map}
-use lib.Dec.{T}
-use lib.IntN.{pos}
+use lib.Dec.{T, ltb}
+use borrow.Author.Tests.{lt-ltb, le-ltb}
+use lib.IntN.{ℤ, pos, negsuc}
 use lib.ListN.{length, get_or, drop, set}
 use Rattle.opcodes.specs.Lists.{All, Some}
-use Rattle.opcodes.specs.Words.{is, FORLOOP, TAILCALL}
+use Rattle.opcodes.specs.Words.{is, operand, C, JMP, FORPREP, FORLOOP, EQ, LT, LE, TEST, TESTSET, TFORLOOP, LOADBOOL, CLOSURE, SETLIST, RETURN, TAILCALL}
 use Rattle.opcodes.specs.Bytes.{i32_record}
 use Rattle.chunk.specs.Table.{rows, Proto, protos}
 use Rattle.chunk.specs.Roles.{Instruction, is_executable, Executable, claims, roles, role_at, word_at, companions, role_bytes, records_of}
@@ -17,14 +18,14 @@ use Rattle.chunk.specs.Bindings.{binding_bytes, binding_records}
 use Rattle.std.proofs.Math.Option.{none}
 use Rattle.chunk.specs.Refusals.{Refused, image_refusal, word_total}
 use Rattle.chunk.specs.Calls.{accepted, refused, roles_answer, roles_after, image_bindings, bindings_refusal, bindings_answer, bindings_after}
-use Rattle.verdict.specs.Operands.{conditional_skips}
+use Rattle.verdict.specs.Operands.{target, is_loadbool_skip, conditional_skips}
 use Rattle.verdict.specs.Diagnostics.{Step, tested_step, proto_steps, truncation_at, known_diagnostics, diagnostics_at}
 use Rattle.verdict.specs.Walk.{Walk, in_row, diagnostic_fields, diagnostic_bytes, count_n, advance, max_diagnostics, most_diagnostics, ValidForParser, Invalid}
 use Rattle.verdict.specs.Image.{Image, image_protos, image_walk, diagnostics, verdict}
 use Rattle.verdict.specs.Check.{Checked, check_answer, diagnostics_after}
 use Rattle.verdict.specs.Rules.{OperandsInRange, WellFormed}
-use Rattle.verdict.specs.Executions.{at, arrive, next, meet, run_from, run, SafeRun}
-use Rattle.verdict.specs.Statements.{Accepted, large_stacks, IsError, RulesByCodes, OfNoOperand, GoesAsTold, ArrivesAsTold, LeavesOnlyThere, walk_by_children, RolesLeft, GoesOn, GoesOnFrom, Passed, Guarantee}
+use Rattle.verdict.specs.Executions.{Exit, ended_at, no_word_at, out_of_choices, at, left, arrive, next, meet, run_from, run, SafeRun}
+use Rattle.verdict.specs.Statements.{large_stacks, IsError, RulesByCodes, OfNoOperand, walk_by_children, RolesLeft, GaveOut, Passed, Guarantee}
 use Rattle.verdict.specs.Examples.{result, examples, misreadings, word_runs, run_examples}
 use Rattle.opcodes.proofs.AllLaws.{all_imp}
 use Rattle.chunk.proofs.RefusalLaws.{or_else_none}
@@ -33,7 +34,7 @@ use Rattle.chunk.proofs.UntouchedLaws.{roles_untouched}
 use Rattle.chunk.proofs.RoleLaws.{owned_role, companion_unread, roles_by_children}
 use Rattle.verdict.proofs.RuleLaws.{well_formed_iff_none, rules_by_codes}
 use Rattle.verdict.proofs.ExecutionLaws.{runs_safe}
-use Rattle.verdict.proofs.RunLaws.{one_way, goes, arrives, leaves_only_there, starts_at_0, empty_meets_none, goes_on_lem, left_meets_no_more}
+use Rattle.verdict.proofs.RunLaws.{one_way, jump_goes, loop_goes, skip_goes, loadbool_goes, owner_goes, return_ends, tailcall_goes, other_goes, ends_there, goes_past, starts_at_0, empty_meets_none, goes_on_from, left_meets_no_more}
 use Rattle.verdict.proofs.OperandLaws.{operands_by_codes}
 use Rattle.verdict.proofs.WalkLaws.{valid_well_formed, well_formed_valid, invalid_iff, advance_going, word_is_one_step}
 use Rattle.verdict.proofs.LimitLaws.{at_most}
@@ -59,30 +60,94 @@ rules_have_their_codes p pc = rules_by_codes p pc
 pub theorem_a : (p : Proto) → WellFormed p → (choices : List Bool) → SafeRun p choices
 theorem_a p k choices = runs_safe p k choices
 
--- that is, read out: each word that it meets is executable and has its operands in range, and it leaves only there
-pub safe_runs_meet : (p : Proto) (choices : List Bool) → SafeRun p choices → All (λ pc. Executable p pc × OperandsInRange p pc) (run p choices).met
+-- that is, read out: each word that it meets is executable and has its operands in range; and it leaves only at RETURN, TAILCALL or past the last word
+pub safe_run_meets : (p : Proto) (choices : List Bool) → SafeRun p choices → All (λ pc. Executable p pc × OperandsInRange p pc) (run p choices).met
 unfolding SafeRun
-safe_runs_meet p choices s = all_imp (λ pc m. (m.executable, m.operands)) s.met
+safe_run_meets p choices s = all_imp (λ pc m. (m.executable, m.operands)) s.met
 
-pub safe_runs_leave : (p : Proto) (choices : List Bool) → SafeRun p choices → LeavesOnlyThere p (run p choices).exit
+pub safe_run_ends : (p : Proto) (choices : List Bool) (pc : ℕ) → SafeRun p choices → (run p choices).exit ≡ ended_at pc → T (is (word_at p pc) (RETURN ∷ TAILCALL ∷ []))
 unfolding SafeRun
-safe_runs_leave p choices s = leaves_only_there p (run p choices).exit s.exit
+safe_run_ends p choices pc s q = ends_there p (run p choices).exit pc s.exit q
 
--- and a word's operands are in range exactly where it has no diagnostic of an operand's code, a CLOSURE's companions among them
+pub safe_run_goes_past : (p : Proto) (choices : List Bool) (z : ℤ) → SafeRun p choices → (run p choices).exit ≡ no_word_at z → (n : ℕ) × (z ≡ pos n) × (length p.code ≤ n)
+unfolding SafeRun
+safe_run_goes_past p choices z s q = goes_past p (run p choices).exit z s.exit q
+
+-- the operands that a word names are in range exactly where it has no diagnostic of an operand's code, those of a CLOSURE's companions among them
 pub operands_have_their_codes : (p : Proto) (pc : ℕ) → OperandsInRange p pc ↔ All OfNoOperand (known_diagnostics p pc (word_at p pc))
 operands_have_their_codes p pc = operands_by_codes p pc
 
--- ---- a run's steps: where each kind of word goes, and what it comes to; "Each step takes one choice"
+-- ---- a run, sentence by sentence, of any prototype. "It starts at place 0"
 
-pub steps_go : (p : Proto) (pc : ℕ) → GoesAsTold p pc
-steps_go p pc = goes p pc
+pub run_starts_at_0 : (p : Proto) (choices : List Bool) → run p choices ≡ run_from p choices (arrive p (pos 0))
+unfolding run
+run_starts_at_0 p choices = refl
 
-pub steps_arrive : (p : Proto) → ArrivesAsTold p
-steps_arrive p = arrives p
+-- it comes to a word, or "to a place without a word": "past the last word is any place not below the word count"
+pub comes_to_a_word : (p : Proto) (n : ℕ) → n < length p.code → arrive p (pos n) ≡ at n
+unfolding arrive
+comes_to_a_word p n h = rw (lt-ltb n (length p.code) h)
 
-pub steps_follow : (p : Proto) (pc : ℕ) (choice : Bool) (choices : List Bool) → run_from p (choice ∷ choices) (at pc) ≡ meet pc (run_from p choices (next p pc choice))
+pub comes_past_the_last : (p : Proto) (n : ℕ) → length p.code ≤ n → arrive p (pos n) ≡ left (no_word_at (pos n))
+unfolding arrive
+comes_past_the_last p n h = rw (le-ltb n (length p.code) h)
+
+pub comes_before_the_first : (p : Proto) (n : ℕ) → arrive p (negsuc n) ≡ left (no_word_at (negsuc n))
+unfolding arrive
+comes_before_the_first p n = refl
+
+-- "Each step takes one choice"; a run "meets the word at each place it comes to"
+pub step_takes_one : (p : Proto) (pc : ℕ) (choice : Bool) (choices : List Bool)
+    → run_from p (choice ∷ choices) (at pc) ≡ record { met = pc ∷ (run_from p choices (next p pc choice)).met; exit = (run_from p choices (next p pc choice)).exit }
+unfolding run_from meet
+step_takes_one p pc choice choices = refl
+
+-- "the one where the list gives out included"
+pub list_gives_out : (p : Proto) (pc : ℕ) → run_from p [] (at pc) ≡ record { met = pc ∷ []; exit = out_of_choices }
 unfolding run_from
-steps_follow p pc choice choices = refl
+list_gives_out p pc = refl
+
+-- "It leaves where it ends or comes to a place without a word": then it meets nothing more
+pub left_for_good : (p : Proto) (choices : List Bool) (e : Exit) → run_from p choices (left e) ≡ record { met = []; exit = e }
+unfolding run_from
+left_for_good p [] e = refl
+left_for_good p (choice ∷ choices) e = refl
+
+-- "JMP goes to its target; FORPREP too"
+pub jmp_goes_to_its_target : (p : Proto) (pc : ℕ) (choice : Bool) → T (is (word_at p pc) (JMP ∷ FORPREP ∷ [])) → next p pc choice ≡ arrive p (target pc (word_at p pc))
+jmp_goes_to_its_target p pc choice t = jump_goes p pc choice t
+
+-- "FORLOOP there or to the next word"
+pub forloop_goes_there_or_on : (p : Proto) (pc : ℕ) (choice : Bool) → T (is (word_at p pc) (FORLOOP ∷ [])) → next p pc choice ≡ cond choice (arrive p (target pc (word_at p pc))) (arrive p (pos (pc + 1)))
+forloop_goes_there_or_on p pc choice t = loop_goes p pc choice t
+
+-- "a skip word to place + 1 or + 2"
+pub test_skips_or_goes_on : (p : Proto) (pc : ℕ) (choice : Bool) → T (is (word_at p pc) (EQ ∷ LT ∷ LE ∷ TEST ∷ TESTSET ∷ TFORLOOP ∷ [])) → next p pc choice ≡ cond choice (arrive p (pos (pc + 2))) (arrive p (pos (pc + 1)))
+test_skips_or_goes_on p pc choice t = skip_goes p pc choice t
+
+-- "LOADBOOL with C not 0 only + 2"
+pub loadbool_only_skips : (p : Proto) (pc : ℕ) (choice : Bool) → T (is (word_at p pc) (LOADBOOL ∷ []) && ltb 0 (operand C (word_at p pc))) → next p pc choice ≡ arrive p (pos (pc + 2))
+unfolding is_loadbool_skip
+loadbool_only_skips p pc choice t = loadbool_goes p pc choice t
+
+-- "an owner past its companions"
+pub owner_goes_past_them : (p : Proto) (pc : ℕ) (choice : Bool) → T (is (word_at p pc) (CLOSURE ∷ SETLIST ∷ [])) → next p pc choice ≡ arrive p (pos (pc + 1 + companions p pc))
+owner_goes_past_them p pc choice t = owner_goes p pc choice t
+
+-- "RETURN ends"
+pub return_only_ends : (p : Proto) (pc : ℕ) (choice : Bool) → T (is (word_at p pc) (RETURN ∷ [])) → next p pc choice ≡ left (ended_at pc)
+return_only_ends p pc choice t = return_ends p pc choice t
+
+-- "TAILCALL ends or goes on"
+pub tailcall_ends_or_goes_on : (p : Proto) (pc : ℕ) (choice : Bool) → T (is (word_at p pc) (TAILCALL ∷ [])) → next p pc choice ≡ cond choice (left (ended_at pc)) (arrive p (pos (pc + 1)))
+tailcall_ends_or_goes_on p pc choice t = tailcall_goes p pc choice t
+
+-- "others go on"
+pub others_go_on : (p : Proto) (pc : ℕ) (choice : Bool)
+    → T (not (is (word_at p pc) (JMP ∷ FORPREP ∷ FORLOOP ∷ EQ ∷ LT ∷ LE ∷ TEST ∷ TESTSET ∷ TFORLOOP ∷ CLOSURE ∷ SETLIST ∷ RETURN ∷ TAILCALL ∷ []) || is (word_at p pc) (LOADBOOL ∷ []) && ltb 0 (operand C (word_at p pc))))
+    → next p pc choice ≡ arrive p (pos (pc + 1))
+unfolding is_loadbool_skip
+others_go_on p pc choice t = other_goes p pc choice t
 
 -- ---- runs go as the tables of runs say: each way of each kind of word, and where a run begins, stands and leaves
 
@@ -96,18 +161,21 @@ runs_go = runs_hold
 pub choice_counts_only_there : (p : Proto) (pc : ℕ) → T (not (is (word_at p pc) (FORLOOP ∷ TAILCALL ∷ conditional_skips))) → next p pc true ≡ next p pc false
 choice_counts_only_there p pc t = one_way p pc t
 
--- "It starts at place 0", where there is a word; "An empty part has no run"
-pub run_starts_at_0 : (p : Proto) (choices : List Bool) → 0 < length p.code → (rest : List ℕ) × ((run p choices).met ≡ 0 ∷ rest)
-run_starts_at_0 p choices h = starts_at_0 p choices h
+-- `met` begins with place 0 where there is a word; "An empty part has no run"
+pub first_word_is_met : (p : Proto) (choices : List Bool) → 0 < length p.code → (rest : List ℕ) × ((run p choices).met ≡ 0 ∷ rest)
+first_word_is_met p choices h = starts_at_0 p choices h
 
 pub no_run_without_words : (p : Proto) (choices : List Bool) → p.code ≡ [] → (run p choices).met ≡ []
 no_run_without_words p choices e = empty_meets_none p choices e
 
--- a run of xs ++ ys goes on where that of xs stands, and one that has left meets nothing more
-pub run_goes_on : (p : Proto) (xs : List Bool) → GoesOn (run p xs).exit → GoesOnFrom p (arrive p (pos 0)) xs
-run_goes_on p xs g = goes_on_lem p xs g
+-- a run of xs ++ ys goes on where that of xs stands, which met a word for each choice before; and one that has left meets nothing more
+pub run_goes_on : (p : Proto) (xs : List Bool) → GaveOut (run p xs).exit
+    → (before : List ℕ) × (pc : ℕ) × (length before ≡ length xs) × ((run p xs).met ≡ before ++ (pc ∷ []))
+    × ((ys : List Bool) → run p (xs ++ ys) ≡ record { met = before ++ (run_from p ys (at pc)).met; exit = (run_from p ys (at pc)).exit })
+unfolding run
+run_goes_on p xs g = let v = goes_on_from p xs g in (v.before, v.stands, v.each, v.met, v.rest)
 
-pub left_run_meets_no_more : (p : Proto) (xs ys : List Bool) → (GoesOn (run p xs).exit → ⊥) → run p (xs ++ ys) ≡ run p xs
+pub left_run_meets_no_more : (p : Proto) (xs ys : List Bool) → (GaveOut (run p xs).exit → ⊥) → run p (xs ++ ys) ≡ run p xs
 unfolding run
 left_run_meets_no_more p xs ys n = left_meets_no_more p (arrive p (pos 0)) xs ys n
 
@@ -130,16 +198,14 @@ theorem_d i = invalid_iff i
 -- ---- e. an image that no refusal from 1 to 6 meets has at most 10,255 diagnostics; and one of them has that many, with nothing that came in
 
 pub theorem_e : (i : Image) → image_refusal i.table i.words ≡ none → length (diagnostics i) ≤ most_diagnostics
-unfolding Accepted
 theorem_e i a = at_most i a
 
 pub theorem_e_reached : (image_refusal fullest.table fullest.words ≡ none) × (fullest.warnings ≡ 0) × (fullest.errors ≡ 0) × (length (diagnostics fullest) ≡ most_diagnostics)
-unfolding fullest Accepted
+unfolding fullest
 theorem_e_reached = (fullest_accepted, refl, refl, fullest_count)
 
 -- "Four i32: row, place, code, value": they hold the numbers of each diagnostic of such an image
 pub records_hold : (i : Image) → image_refusal i.table i.words ≡ none → All (λ d. All Signed32 (diagnostic_fields d)) (diagnostics i)
-unfolding Accepted
 records_hold i a = all_imp fields_signed (diagnostics_held i a)
 
 -- ---- f. the worked examples P1 to P13, and the misreadings that document 01 excludes: each has its cases in a table, and the first three a law too
@@ -174,51 +240,73 @@ theorem_f_one_step p pc h = word_is_one_step p pc h
 -- children", each after a test "before a child"
 
 pub walk_goes_by_children : (i : Image) → image_refusal i.table i.words ≡ none → image_walk i ≡ walk_by_children i
-unfolding Accepted
 walk_goes_by_children i a = image_by_children i a
 
 -- ---- demand 3 of the check call: whatever image and buffers it is called with, if it is not refused, its result says this of the image
 
-pub demand_3 : (i : Image) (role_length diagnosticLength : ℕ) (c : Checked) → check_answer i role_length diagnosticLength ≡ accepted c → Guarantee i c
-demand_3 i role_length diagnosticLength c e = check_guaranteed i role_length diagnosticLength c e
+pub demand_3 : (i : Image) (role_length diagnostics_length : ℕ) (c : Checked) → check_answer i role_length diagnostics_length ≡ accepted c → Guarantee i c
+demand_3 i role_length diagnostics_length c e = check_guaranteed i role_length diagnostics_length c e
+
+-- read out: verdict and number are document 01's; a prototype that keeps the rules is safe; ValidForParser says that all do, and is given exactly then;
+-- Invalid comes of an error
+pub passed_says : (p : Proto) → Passed p → WellFormed p × ((choices : List Bool) → SafeRun p choices)
+passed_says p k = (k.well_formed, k.runs)
+
+pub guarantee_of_verdict : (i : Image) (c : Checked) → Guarantee i c → (c.verdict ≡ verdict i) × (c.count ≡ length (diagnostics i)) × (c.count ≤ most_diagnostics)
+guarantee_of_verdict i c g = (g.verdict, g.count, g.most)
+
+pub guarantee_of_safety : (i : Image) (c : Checked) → Guarantee i c → All (λ p. WellFormed p → (choices : List Bool) → SafeRun p choices) (image_protos i)
+guarantee_of_safety i c g = g.safe
+
+pub guarantee_of_a_pass : (i : Image) (c : Checked) → Guarantee i c → c.verdict ≡ ValidForParser → All Passed (image_protos i)
+guarantee_of_a_pass i c g = g.valid
+
+pub guarantee_of_exactness : (i : Image) (c : Checked) → Guarantee i c → i.errors ≡ 0 → i.warnings + large_stacks (image_protos i) < max_diagnostics → (c.verdict ≡ ValidForParser) ↔ All WellFormed (image_protos i)
+guarantee_of_exactness i c g = g.exact
+
+pub guarantee_of_invalid : (i : Image) (c : Checked) → Guarantee i c → (c.verdict ≡ Invalid) ↔ ((0 < i.errors) ⊎ Some IsError (diagnostics i))
+guarantee_of_invalid i c g = g.invalid
 
 -- ---- "Trays stay untouched, but 8 comes with roles written": of each call, for any table, words and buffers
 
-pub roles_call_refused : (table words roleBuffer : List ℕ) (r : Refused) → roles_answer table words (length roleBuffer) ≡ refused r → roles_after table words roleBuffer ≡ roleBuffer
-roles_call_refused table words roleBuffer r e = roles_untouched table words roleBuffer r e
+pub roles_call_refused : (table words role_buffer : List ℕ) (r : Refused) → roles_answer table words (length role_buffer) ≡ refused r → roles_after table words role_buffer ≡ role_buffer
+roles_call_refused table words role_buffer r e = roles_untouched table words role_buffer r e
 
-pub bindings_call_refused : (table words roleBuffer bindings : List ℕ) (r : Refused) → bindings_answer table words (length roleBuffer) (length bindings) ≡ refused r
-    → (bindings_after table words (length roleBuffer) bindings ≡ bindings) × RolesLeft table words roleBuffer r
-bindings_call_refused table words roleBuffer bindings r e = bindings_leaves table words roleBuffer bindings r e
+pub bindings_call_refused : (table words role_buffer bindings : List ℕ) (r : Refused) → bindings_answer table words (length role_buffer) (length bindings) ≡ refused r
+    → (bindings_after table words (length role_buffer) bindings ≡ bindings) × RolesLeft table words role_buffer r
+bindings_call_refused table words role_buffer bindings r e = bindings_leaves table words role_buffer bindings r e
 
-pub check_call_refused : (i : Image) (roleBuffer buffer : List ℕ) (r : Refused) → check_answer i (length roleBuffer) (length buffer) ≡ refused r
-    → (diagnostics_after i (length roleBuffer) buffer ≡ buffer) × RolesLeft i.table i.words roleBuffer r
-check_call_refused i roleBuffer buffer r e = check_leaves i roleBuffer buffer r e
+pub check_call_refused : (i : Image) (role_buffer buffer : List ℕ) (r : Refused) → check_answer i (length role_buffer) (length buffer) ≡ refused r
+    → (diagnostics_after i (length role_buffer) buffer ≡ buffer) × RolesLeft i.table i.words role_buffer r
+check_call_refused i role_buffer buffer r e = check_leaves i role_buffer buffer r e
 
 -- ---- an accepted call answers the number of its records; they stand in front of its buffers, and "what lies past the records is unchanged"
 
-pub roles_call_accepted : (table words roleBuffer : List ℕ) (n : ℕ) → roles_answer table words (length roleBuffer) ≡ accepted n
-    → (n ≡ word_total (rows table)) × (roles_after table words roleBuffer ≡ records_of (flat_map roles (protos table words)) ++ drop (role_bytes * n) roleBuffer)
+pub roles_call_accepted : (table words role_buffer : List ℕ) (n : ℕ) → roles_answer table words (length role_buffer) ≡ accepted n
+    → (n ≡ word_total (rows table)) × (roles_after table words role_buffer ≡ records_of (flat_map roles (protos table words)) ++ drop (role_bytes * n) role_buffer)
 unfolding roles_answer
-roles_call_accepted table words roleBuffer n e =
+roles_call_accepted table words role_buffer n e =
     let q = accepted_result _ _ n e in
-    (q, subst⁻¹ (λ (m : ℕ). roles_after table words roleBuffer ≡ records_of (flat_map roles (protos table words)) ++ drop (role_bytes * m) roleBuffer) q (roles_written table words roleBuffer (accepted_none _ _ n e)))
+    (q, subst⁻¹ (λ (m : ℕ). roles_after table words role_buffer ≡ records_of (flat_map roles (protos table words)) ++ drop (role_bytes * m) role_buffer) q (roles_written table words role_buffer (accepted_none _ _ n e)))
 
-pub bindings_call_accepted : (table words roleBuffer bindings : List ℕ) (n : ℕ) → bindings_answer table words (length roleBuffer) (length bindings) ≡ accepted n
+pub bindings_call_accepted : (table words role_buffer bindings : List ℕ) (n : ℕ) → bindings_answer table words (length role_buffer) (length bindings) ≡ accepted n
     → (n ≡ length (image_bindings table words))
-    × (bindings_after table words (length roleBuffer) bindings ≡ binding_records (image_bindings table words) ++ drop (binding_bytes * n) bindings)
-    × (roles_after table words roleBuffer ≡ records_of (flat_map roles (protos table words)) ++ drop (role_bytes * word_total (rows table)) roleBuffer)
+    × (bindings_after table words (length role_buffer) bindings ≡ binding_records (image_bindings table words) ++ drop (binding_bytes * n) bindings)
+    × (roles_after table words role_buffer ≡ records_of (flat_map roles (protos table words)) ++ drop (role_bytes * word_total (rows table)) role_buffer)
 unfolding bindings_answer bindings_refusal
-bindings_call_accepted table words roleBuffer bindings n e =
-    let unrefused = accepted_none (bindings_refusal table words (length roleBuffer) (length bindings)) _ n e in
+bindings_call_accepted table words role_buffer bindings n e =
+    let unrefused = accepted_none (bindings_refusal table words (length role_buffer) (length bindings)) _ n e in
     let q = accepted_result _ _ n e in (
       q,
-      subst⁻¹ (λ (m : ℕ). bindings_after table words (length roleBuffer) bindings ≡ binding_records (image_bindings table words) ++ drop (binding_bytes * m) bindings) q (bindings_written table words bindings (length roleBuffer) unrefused),
-      roles_written table words roleBuffer (or_else_none _ _ unrefused).0,
+      subst⁻¹ (λ (m : ℕ). bindings_after table words (length role_buffer) bindings ≡ binding_records (image_bindings table words) ++ drop (binding_bytes * m) bindings) q (bindings_written table words bindings (length role_buffer) unrefused),
+      roles_written table words role_buffer (or_else_none _ _ unrefused).0,
     )
 
--- the check call's number is that of the diagnostics, by demand 3
-pub check_call_accepted : (i : Image) (roleBuffer buffer : List ℕ) (c : Checked) → check_answer i (length roleBuffer) (length buffer) ≡ accepted c
-    → (diagnostics_after i (length roleBuffer) buffer ≡ i32_record (flat_map diagnostic_fields (diagnostics i)) ++ drop (diagnostic_bytes * length (diagnostics i)) buffer)
-    × (roles_after i.table i.words roleBuffer ≡ records_of (flat_map roles (image_protos i)) ++ drop (role_bytes * word_total (rows i.table)) roleBuffer)
-check_call_accepted i roleBuffer buffer c e = check_written i roleBuffer buffer c e
+pub check_call_accepted : (i : Image) (role_buffer buffer : List ℕ) (c : Checked) → check_answer i (length role_buffer) (length buffer) ≡ accepted c
+    → (c.count ≡ length (diagnostics i))
+    × (diagnostics_after i (length role_buffer) buffer ≡ i32_record (flat_map diagnostic_fields (diagnostics i)) ++ drop (diagnostic_bytes * c.count) buffer)
+    × (roles_after i.table i.words role_buffer ≡ records_of (flat_map roles (image_protos i)) ++ drop (role_bytes * word_total (rows i.table)) role_buffer)
+check_call_accepted i role_buffer buffer c e =
+    let q = (check_guaranteed i (length role_buffer) (length buffer) c e).count in
+    let left = check_written i role_buffer buffer c e in
+    (q, subst⁻¹ (λ (n : ℕ). diagnostics_after i (length role_buffer) buffer ≡ i32_record (flat_map diagnostic_fields (diagnostics i)) ++ drop (diagnostic_bytes * n) buffer) q left.0, left.1)

@@ -14,11 +14,11 @@ use borrow.Author.Tests.{leb-false, ltb-true, ltb-false}
 use Rattle.opcodes.specs.Lists.{All, go_on_if}
 use Rattle.opcodes.specs.Bytes.{u32s}
 use Rattle.chunk.specs.Table.{Row, row_at, rows, below, children, Proto, protos_of, protos}
-use Rattle.chunk.specs.Refusals.{bad_depth}
+use Rattle.chunk.specs.Refusals.{bad_depth, image_refusal}
 use Rattle.verdict.specs.Diagnostics.{Step, tested_step, proto_steps}
 use Rattle.verdict.specs.Walk.{Walk, max_diagnostics, count_n, start, advance, walk_row, walk_from, walk}
 use Rattle.verdict.specs.Image.{Image, image_protos, image_walk}
-use Rattle.verdict.specs.Statements.{Accepted, walk_proto, walk_by_children}
+use Rattle.verdict.specs.Statements.{walk_proto, walk_by_children}
 use Rattle.opcodes.proofs.TestLaws.{or_false}
 use Rattle.opcodes.proofs.AllLaws.{all_at, all_of, all_map}
 use Rattle.chunk.proofs.TableLaws.{length_rows, drop_rows, below_end, below_next, below_split, children_end, children_found, children_deeper, length_protos_of}
@@ -311,8 +311,8 @@ module _ (incoming : ℕ) (table : List ℕ) (all : List (List Step)) (same : le
       count = omega (arith, length-drop 1 rs, length-drop 1 all)
 
 -- of an accepted image
-pub image_by_children : (i : Image) → Accepted i → image_walk i ≡ walk_by_children i
-unfolding Accepted image_walk image_protos protos walk_by_children
+pub image_by_children : (i : Image) → image_refusal i.table i.words ≡ none → image_walk i ≡ walk_by_children i
+unfolding image_walk image_protos protos walk_by_children
 image_by_children i a =
     let kept = image_kept i.table i.words a in
     let ps = protos_of (rows i.table) (u32s i.words) in

@@ -185,12 +185,19 @@ pub one_large_stack : large_stacks (record { code = []; constants = 0; upvalues 
 unfolding large_stacks has_large_stack
 one_large_stack = refl
 
--- ---- some prototype keeps all rules: a RETURN of register 0
+-- ---- some prototype keeps all rules: a RETURN of register 0, with a stack above 250 too ("Code 3 breaks no rule")
+
+keeps : (stack : ℕ) → truncation_at (one_word 0x0080001e stack) 0 ≡ [] → diagnostics_at (one_word 0x0080001e stack) 0 ≡ [] → WellFormed (one_word 0x0080001e stack)
+keeps stack t d =
+    (well_formed_iff_none (one_word 0x0080001e stack)).1
+    (λ pc.
+    elim pc as (λ n. n < 1 → (truncation_at (one_word 0x0080001e stack) n ≡ []) × (diagnostics_at (one_word 0x0080001e stack) n ≡ []))
+    [ zero ↦ λ h. (t, d) | suc n ↦ λ h. absurd (not-suc-le-zero (le_of_suc-le-suc h)) ])
 
 pub keeps_all : WellFormed (one_word 0x0080001e 1)
 unfolding truncation_at executable_at is_truncated companions existing owned claims binding_count has_extra role_at roles roles_from word_at diagnostics_at word_diagnostics opcode_diagnostics is_unknown known_diagnostics jump_diagnostics is_jump skip_diagnostics is_skip is_loadbool_skip operand_diagnostics not_below constant_bx upvalue_b flag_a register_a span_ends register_in constant_in child_bx binding_words is B C only flatten flat_map
-keeps_all =
-    (well_formed_iff_none (one_word 0x0080001e 1)).1
-    (λ pc.
-    elim pc as (λ n. n < 1 → (truncation_at (one_word 0x0080001e 1) n ≡ []) × (diagnostics_at (one_word 0x0080001e 1) n ≡ []))
-    [ zero ↦ λ h. (refl, refl) | suc n ↦ λ h. absurd (not-suc-le-zero (le_of_suc-le-suc h)) ])
+keeps_all = keeps 1 refl refl
+
+pub keeps_all_with_a_large_stack : WellFormed (one_word 0x0080001e 251)
+unfolding truncation_at executable_at is_truncated companions existing owned claims binding_count has_extra role_at roles roles_from word_at diagnostics_at word_diagnostics opcode_diagnostics is_unknown known_diagnostics jump_diagnostics is_jump skip_diagnostics is_skip is_loadbool_skip operand_diagnostics not_below constant_bx upvalue_b flag_a register_a span_ends register_in constant_in child_bx binding_words is B C only flatten flat_map
+keeps_all_with_a_large_stack = keeps 251 refl refl

@@ -20,12 +20,12 @@ checked i = record { verdict = verdict i; count = length (diagnostics i) }
 
 -- 1 to 8, with the role buffer and the diagnostics buffer given by their lengths
 unfoldable pub check_refusal : Image → ℕ → ℕ → Option Refused
-check_refusal i role_length diagnosticLength =
-    or_else (roles_refusal i.table i.words role_length) (too_short (length (diagnostics i)) diagnostic_bytes diagnosticLength)
+check_refusal i role_length diagnostics_length =
+    or_else (roles_refusal i.table i.words role_length) (too_short (length (diagnostics i)) diagnostic_bytes diagnostics_length)
 
 -- the verdict and the number, or the refusal
 unfoldable pub check_answer : Image → ℕ → ℕ → Answer Checked
-check_answer i role_length diagnosticLength = answer (check_refusal i role_length diagnosticLength) (checked i)
+check_answer i role_length diagnostics_length = answer (check_refusal i role_length diagnostics_length) (checked i)
 
 -- the diagnostics buffer after the call
 unfoldable pub diagnostics_after : Image → ℕ → List ℕ → List ℕ

@@ -110,6 +110,32 @@ more_examples =
     -- a TFORLOOP whose last register is 3; an ADD of register 5 and constant 0, the register first
     ∷ word 0x00004021 3 (row0 0 11 (pos 3)) Invalid
     ∷ word 0x8001400c 2 (row0 0 13 (pos 5) ++ row0 0 14 (pos 0)) Invalid
+    -- spans that end at the last register, and one past it: SELF, FORPREP, FORLOOP, TAILCALL, RETURN, SETLIST
+    ∷ word 0x0000000b 2 [] ValidForParser
+    ∷ word 0x0000000b 1 (row0 0 11 (pos 1)) Invalid
+    ∷ word 0x7fff8020 4 [] ValidForParser
+    ∷ word 0x7fff8020 3 (row0 0 11 (pos 3)) Invalid
+    ∷ word 0x7fff801f 4 [] ValidForParser
+    ∷ word 0x7fff801f 3 (row0 0 11 (pos 3)) Invalid
+    ∷ word 0x0100001d 2 [] ValidForParser
+    ∷ word 0x0100001d 1 (row0 0 11 (pos 1)) Invalid
+    ∷ word 0x0180001e 2 [] ValidForParser
+    ∷ word 0x0180001e 1 (row0 0 11 (pos 1)) Invalid
+    ∷ word 0x00804022 2 [] ValidForParser
+    ∷ word 0x00804022 1 (row0 0 11 (pos 1)) Invalid
+    -- a CLOSURE with a companion GETUPVAL: of an upvalue that is there, and of one that is not; and with a LOADNIL
+    ∷ example (row 0 2 0 1 2 ++ row 1 1 0 1 2) (0x00000024 ∷ 0x00000004 ∷ 0x0080001e ∷ []) 0 0 [] (pos 0 ∷ pos 0 ∷ negsuc 0 ∷ pos 0 ∷ pos 0 ∷ pos 1 ∷ []) ValidForParser
+    ∷ example (row 0 2 0 1 2 ++ row 1 1 0 1 2) (0x00000024 ∷ 0x00800004 ∷ 0x0080001e ∷ []) 0 0 (row0 1 8 (pos 1)) (pos 0 ∷ pos 0 ∷ negsuc 0 ∷ pos 0 ∷ pos 1 ∷ pos 1 ∷ []) Invalid
+    ∷ parent 2 (0x00000024 ∷ 0x00000003 ∷ []) 1 (row0 1 17 (pos 3)) (pos 0 ∷ pos 0 ∷ negsuc 0 ∷ [])
+    -- constants: a LOADK of the last one and of one past it, a SETGLOBAL of one past it; upvalues: a SETUPVAL
+    ∷ example (row 0 1 1 0 2) (0x00000001 ∷ []) 0 0 [] [] ValidForParser
+    ∷ example (row 0 1 1 0 2) (0x00004001 ∷ []) 0 0 (row0 0 7 (pos 1)) [] Invalid
+    ∷ example (row 0 1 1 0 2) (0x00004007 ∷ []) 0 0 (row0 0 7 (pos 1)) [] Invalid
+    ∷ example (row 0 1 0 1 2) (0x00000008 ∷ []) 0 0 [] (pos 0 ∷ pos 0 ∷ negsuc 0 ∷ []) ValidForParser
+    ∷ example (row 0 1 0 1 2) (0x00800008 ∷ []) 0 0 (row0 0 8 (pos 1)) (pos 0 ∷ pos 0 ∷ negsuc 0 ∷ []) Invalid
+    -- flags of LT and LE
+    ∷ word 0x00000098 1 (row0 0 9 (pos 2)) Invalid
+    ∷ word 0x00000099 1 (row0 0 9 (pos 2)) Invalid
     -- the last known opcode: a VARARG of one register, and one whose last register is 2
     ∷ word 0x01000025 2 [] ValidForParser
     ∷ word 0x02000025 2 (row0 0 11 (pos 2)) Invalid

@@ -1,24 +1,19 @@
 -- Terms that proofs/Theorems uses beside document 01's definitions. Assumes nothing: these are definitions.
-use Rattle.std.specs.Prelude.{ℕ, zero, suc, ◌+◌, ◌*◌, ◌≤◌, ◌<◌, ◌≡◌, ◌≢◌, ◌↔◌, ◌⊎◌, Bool, true, false, not, ◌||◌, T, length, get_or, drop, ℤ, pos, negsuc}
+use Rattle.std.specs.Prelude.{ℕ, zero, suc, ◌+◌, ◌*◌, ◌≤◌, ◌<◌, ◌≡◌, ◌≢◌, ◌↔◌, ◌⊎◌, Bool, not, T, length, get_or, drop}
 use mathlib.Core.List.{List, [], ◌∷◌, ◌++◌, map, foldl, flat_map, flatten}
-use Rattle.std.proofs.Math.Option.{none}
 use Rattle.opcodes.specs.Lists.{All, Some, elem, select, up_from}
-use Rattle.opcodes.specs.Words.{B, C, is, JMP, FORPREP, FORLOOP, RETURN, TAILCALL, CLOSURE, SETLIST}
+use Rattle.opcodes.specs.Words.{B, C}
 use Rattle.chunk.specs.Table.{Row, row_at, rows, children, Proto, protos}
-use Rattle.chunk.specs.Roles.{word_at, companions, is_truncated, binding_words, roles, role_bytes, records_of}
-use Rattle.chunk.specs.Refusals.{Refused, image_refusal, word_total}
+use Rattle.chunk.specs.Roles.{word_at, is_truncated, binding_words, roles, role_bytes, records_of}
+use Rattle.chunk.specs.Refusals.{Refused, word_total}
 use Rattle.chunk.specs.Calls.{roles_after}
-use Rattle.verdict.specs.Operands.{is_unknown, target, is_loadbool_skip, conditional_skips, constant_bx, upvalue_b, flag_a, flag_limit, register_a, span_ends, register_in, constant_in, child_bx}
+use Rattle.verdict.specs.Operands.{is_unknown, constant_bx, upvalue_b, flag_a, flag_limit, register_a, span_ends, register_in, constant_in, child_bx}
 use Rattle.verdict.specs.Diagnostics.{Diagnostic, has_large_stack, truncation_at, opcode_diagnostics, jump_diagnostics, skip_diagnostics, not_below, binding_diagnostics, Step, tested_step, proto_steps}
 use Rattle.verdict.specs.Walk.{RowDiagnostic, max_diagnostics, most_diagnostics, Walk, start, advance, walk_row, ValidForParser, Invalid}
 use Rattle.verdict.specs.Image.{Image, image_protos, diagnostics, verdict}
 use Rattle.verdict.specs.Check.{Checked}
 use Rattle.verdict.specs.Rules.{Below, registers_of, constants_of, JumpKept, BindingKept, WellFormed}
-use Rattle.verdict.specs.Executions.{Exit, ended_at, no_word_at, out_of_choices, State, at, left, arrive, next, run_from, SafeRun}
-
--- an image that no refusal from 1 to 6 meets
-unfoldable pub Accepted : Image → Type 0
-Accepted i = image_refusal i.table i.words ≡ none
+use Rattle.verdict.specs.Executions.{Exit, ended_at, no_word_at, out_of_choices, SafeRun}
 
 -- how many prototypes have a stack above 250: each adds a warning
 unfoldable pub large_stacks : List Proto → ℕ
@@ -71,47 +66,11 @@ pub record RolesLeft (table words old : List ℕ) (r : Refused) : Type 0 where
   pub written : r.number ≡ 8 → roles_after table words old ≡ records_of (flat_map roles (protos table words)) ++ drop (role_bytes * word_total (rows table)) old
   pub untouched : r.number ≢ 8 → roles_after table words old ≡ old
 
--- a run that is at a word when the list gives out
-abbrev pub GoesOn : Exit → Type 0
-GoesOn (ended_at pc) = ⊥
-GoesOn (no_word_at z) = ⊥
-GoesOn out_of_choices = Unit {0}
-
--- the words that go elsewhere than to the next word, but for LOADBOOL
-abbrev pub goes_elsewhere : List ℕ
-goes_elsewhere = JMP ∷ FORPREP ∷ FORLOOP ∷ RETURN ∷ TAILCALL ∷ CLOSURE ∷ SETLIST ∷ conditional_skips
-
--- Where a step from the word at pc goes, of any prototype, sentence by sentence: "JMP goes to its target; FORPREP too; FORLOOP there or to the next word;
--- a skip word to place + 1 or + 2, LOADBOOL with C not 0 only + 2; an owner past its companions; RETURN ends; TAILCALL ends or goes on; others go on"
-pub record GoesAsTold (p : Proto) (pc : ℕ) : Type 0 where
-  pub jumps : T (is (word_at p pc) (JMP ∷ FORPREP ∷ [])) → (choice : Bool) → next p pc choice ≡ arrive p (target pc (word_at p pc))
-  pub loops : T (is (word_at p pc) (FORLOOP ∷ [])) → (next p pc true ≡ arrive p (target pc (word_at p pc))) × (next p pc false ≡ arrive p (pos (pc + 1)))
-  pub skips : T (is (word_at p pc) conditional_skips) → (next p pc true ≡ arrive p (pos (pc + 2))) × (next p pc false ≡ arrive p (pos (pc + 1)))
-  pub loadbool : T (is_loadbool_skip (word_at p pc)) → (choice : Bool) → next p pc choice ≡ arrive p (pos (pc + 2))
-  pub owns : T (is (word_at p pc) (CLOSURE ∷ SETLIST ∷ [])) → (choice : Bool) → next p pc choice ≡ arrive p (pos (pc + 1 + companions p pc))
-  pub returns : T (is (word_at p pc) (RETURN ∷ [])) → (choice : Bool) → next p pc choice ≡ left (ended_at pc)
-  pub tailcall : T (is (word_at p pc) (TAILCALL ∷ [])) → (next p pc true ≡ left (ended_at pc)) × (next p pc false ≡ arrive p (pos (pc + 1)))
-  pub others : T (not (is (word_at p pc) goes_elsewhere || is_loadbool_skip (word_at p pc)))
-      → (choice : Bool) → next p pc choice ≡ arrive p (pos (pc + 1))
-
--- "comes to a place without a word": "past the last word is any place not below the word count"
-pub record ArrivesAsTold (p : Proto) : Type 0 where
-  pub inside : (n : ℕ) → n < length p.code → arrive p (pos n) ≡ at n
-  pub past : (n : ℕ) → length p.code ≤ n → arrive p (pos n) ≡ left (no_word_at (pos n))
-  pub before : (n : ℕ) → arrive p (negsuc n) ≡ left (no_word_at (negsuc n))
-
--- a run "leaves only at RETURN, TAILCALL or past the last word", if it leaves
-pub record LeavesOnlyThere (p : Proto) (e : Exit) : Type 0 where
-  pub ended : (pc : ℕ) → e ≡ ended_at pc → T (is (word_at p pc) (RETURN ∷ TAILCALL ∷ []))
-  pub no_word : (z : ℤ) → e ≡ no_word_at z → (n : ℕ) × (z ≡ pos n) × (length p.code ≤ n)
-
--- a run that goes on met a word for each choice and then the one that it stands at; with more choices it meets, after the same words, what a run from there meets
-pub record GoesOnFrom (p : Proto) (s : State) (choices : List Bool) : Type 0 where
-  pub before : List ℕ
-  pub each : length before ≡ length choices
-  pub stands : ℕ
-  pub met : (run_from p choices s).met ≡ before ++ (stands ∷ [])
-  pub rest : (more : List Bool) → run_from p (choices ++ more) s ≡ record { met = before ++ (run_from p more (at stands)).met; exit = (run_from p more (at stands)).exit }
+-- a run whose list of choices gave out: it is at a word
+abbrev pub GaveOut : Exit → Type 0
+GaveOut (ended_at pc) = ⊥
+GaveOut (no_word_at z) = ⊥
+GaveOut out_of_choices = Unit {0}
 
 -- a prototype that keeps the rules and of which every run is safe
 pub record Passed (p : Proto) : Type 0 where

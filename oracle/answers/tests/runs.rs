@@ -18,11 +18,12 @@ fn the_stored_file_is_what_the_program_makes() {
 }
 
 #[test]
-fn every_kind_of_word_is_met_with_both_choices() {
+fn every_kind_of_word_is_met_with_both_choices_and_late_too() {
     let counts = counts();
     for kind in KINDS {
-        let [on, off] = counts.steps.get(kind).copied().unwrap_or_default();
+        let [[on, off], [late_on, late_off]] = counts.steps_from(kind);
         assert!(on >= 20 && off >= 20, "{kind}: {on} {off}");
+        assert!(late_on >= 2 && late_off >= 2, "{kind}, late: {late_on} {late_off}");
     }
     assert_eq!(counts.steps.len(), KINDS.len());
 }
@@ -42,8 +43,9 @@ fn runs_stand_in_every_way_at_their_ends() {
 fn lists_and_codes_have_every_length() {
     let counts = counts();
     assert!(counts.runs >= 3_000);
-    assert_eq!(counts.choices.keys().copied().collect::<Vec<_>>(), (0..=40).collect::<Vec<_>>());
-    assert_eq!(counts.words.keys().copied().collect::<Vec<_>>(), (0..=12).collect::<Vec<_>>());
+    assert!((0..=40).all(|len| counts.choices.contains_key(&len)));
+    assert!((0..=12).chain(40..=80).all(|words| counts.words.contains_key(&words)));
+    assert!(counts.words.keys().any(|words| *words > 256));
 }
 
 #[test]

@@ -1,6 +1,6 @@
 //! Executions of one prototype, transcribed from document 01's paragraph "A run" and what it refers to there: the split of
-//! words, the roles, and the operands that words name. Nothing here is taken from luad or from the definitions that the
-//! proofs are about.
+//! words, the roles, and the operands that words name. Nothing here is taken from luad, nor from the definitions that the
+//! proofs are about but for two conventions, which tests/answers/README.md names.
 //!
 //! An execution can be of any prototype, also of one that breaks the rules. Document 01 does not say where it then goes
 //! from a word of unknown opcode or from a companion: the first goes on to the next word, the second goes by its bits,

@@ -1,10 +1,14 @@
 //! Counts over a list of runs: the kinds of words that are met, with both choices, and how the runs stand at their ends.
-use super::text::outside;
+use super::random::MOST_WORDS;
+use super::text::companions_and_outside;
 use super::Run;
 use crate::execution::{execute, may_end, Choice, End, Execution, Prototype};
 use crate::word::op;
 use std::collections::BTreeMap;
 use std::fmt;
+
+/// The first pc that counts as late: the prototypes of most families are shorter.
+pub const LATE: usize = MOST_WORDS as usize;
 
 /// The kinds of words that steps are taken from.
 pub const KINDS: [&str; 30] = [
@@ -41,11 +45,12 @@ pub const KINDS: [&str; 30] = [
 ];
 
 /// The ways in which runs stand at their ends.
-pub const ENDS: [&str; 7] = [
+pub const ENDS: [&str; 8] = [
     "no words, so no run",
     "ended by RETURN",
     "ended by TAILCALL",
-    "left before the first word",
+    "left to -1",
+    "left further before the first word",
     "left to the word count",
     "left further on",
     "the choices gave out",
@@ -124,7 +129,8 @@ fn end_kind(prototype: &Prototype, execution: Option<&Execution>) -> &'static st
         None => "no words, so no run",
         Some(End::Return(_)) => "ended by RETURN",
         Some(End::TailCall(_)) => "ended by TAILCALL",
-        Some(End::Left(pc)) if pc < 0 => "left before the first word",
+        Some(End::Left(-1)) => "left to -1",
+        Some(End::Left(pc)) if pc < 0 => "left further before the first word",
         Some(End::Left(pc)) if pc == count => "left to the word count",
         Some(End::Left(_)) => "left further on",
         Some(End::GaveOut(_)) => "the choices gave out",
@@ -136,8 +142,9 @@ fn end_kind(prototype: &Prototype, execution: Option<&Execution>) -> &'static st
 pub struct Counts {
     pub runs: usize,
     families: Vec<(String, usize)>,
-    /// Steps by kind of word: those that are to go on, and those that are to go off.
+    /// Steps by kind of word: those that are to go on, and those that are to go off; of these, those from late pcs.
     pub steps: BTreeMap<&'static str, [usize; 2]>,
+    pub late: BTreeMap<&'static str, [usize; 2]>,
     pub ends: BTreeMap<&'static str, usize>,
     pub others: BTreeMap<&'static str, usize>,
     /// Runs by the number of choices, and by the number of words.
@@ -167,19 +174,19 @@ impl Counts {
         let companions = run.prototype.companions();
         for (pc, choice) in execution.met.iter().zip(&run.choices) {
             let kind = kind(&run.prototype, companions[*pc], *pc);
-            self.steps.entry(kind).or_default()[usize::from(*choice == Choice::Off)] += 1;
+            let off = usize::from(*choice == Choice::Off);
+            self.steps.entry(kind).or_default()[off] += 1;
+            self.late.entry(kind).or_default()[off] += usize::from(*pc >= LATE);
         }
     }
 
     /// Adds what a run has besides.
     fn add_others(&mut self, run: &Run, execution: &Execution) {
         let prototype = &run.prototype;
-        let companions = prototype.companions();
+        let [companion, outside] = companions_and_outside(prototype, Some(execution)).map(|pcs| !pcs.is_empty());
         let mut met = execution.met.clone();
         met.sort_unstable();
         met.dedup();
-        let companion = met.iter().any(|pc| companions[*pc]);
-        let outside = !outside(prototype, Some(execution)).is_empty();
         let unknown = met.iter().any(|pc| !prototype.fields(*pc).is_known());
         let has = [
             run.choices.is_empty(),
@@ -193,6 +200,11 @@ impl Counts {
         for (name, has) in OTHERS.iter().zip(has) {
             *self.others.entry(name).or_default() += usize::from(has);
         }
+    }
+
+    /// The steps from words of a kind, and of these the late ones.
+    pub fn steps_from(&self, kind: &str) -> [[usize; 2]; 2] {
+        [&self.steps, &self.late].map(|steps| steps.get(kind).copied().unwrap_or_default())
     }
 
     pub fn add(&mut self, run: &Run) {
@@ -221,8 +233,8 @@ impl fmt::Display for Counts {
             writeln!(f, "family {family} {count}")?;
         }
         for kind in KINDS {
-            let [on, off] = self.steps.get(kind).copied().unwrap_or_default();
-            writeln!(f, "steps from {kind}: {on} {off}")?;
+            let [[on, off], [late_on, late_off]] = self.steps_from(kind);
+            writeln!(f, "steps from {kind}: {on} {off}, late: {late_on} {late_off}")?;
         }
         for name in ENDS {
             writeln!(f, "end, {name}: {}", self.ends.get(name).unwrap_or(&0))?;

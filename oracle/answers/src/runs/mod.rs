@@ -4,6 +4,7 @@ pub mod counts;
 mod ends;
 mod jumps;
 mod list;
+mod long;
 mod loops;
 mod operands;
 mod random;
@@ -36,6 +37,7 @@ pub fn each(seed: u64, visit: &mut dyn FnMut(&Run)) {
     loops::add(&mut list);
     operands::add(&mut list);
     random::add(&mut list);
+    long::add(&mut list);
 }
 
 /// A prototype whose figures let all operands of small words be inside, with children of one upvalue, of none and of two.

@@ -1,11 +1,11 @@
-//! Random prototypes of up to twelve words, most of them jumps, skips and owners, with targets near.
+//! Random prototypes, here of up to twelve words, most of them jumps, skips and owners, with targets near.
 use super::list::{random_choices, List};
 use crate::execution::Prototype;
 use crate::rng::Rng;
 use crate::word::{abc, abx, closure, jump, op};
 
 /// Words of a prototype at most.
-const MOST_WORDS: u32 = 12;
+pub const MOST_WORDS: u32 = 12;
 
 /// A figure below the limit for most, and sometimes one that is not.
 fn below(rng: &mut Rng, limit: u32) -> u32 {
@@ -55,22 +55,38 @@ fn word(rng: &mut Rng, prototype: &Prototype, pc: usize, words: u32) -> u32 {
     }
 }
 
-/// A prototype of up to so many words; few have none.
-pub fn prototype(rng: &mut Rng, most_words: u32) -> Prototype {
+/// A prototype's figures and children.
+fn without_words(rng: &mut Rng) -> Prototype {
     let children = rng.below(4);
-    let mut prototype = Prototype {
+    Prototype {
         constants: rng.pick(&[0, 1, 2, 3, 256]),
         upvalues: rng.below(4),
         stack: rng.pick(&[0, 1, 2, 3, 4, 6, 9, 250, 255]),
         children: (0..children).map(|_| rng.pick(&[0, 1, 1, 2, 2, 3, 4])).collect(),
         words: Vec::new(),
-    };
-    let words = if rng.one_in(40) { 0 } else { rng.range(1, most_words) };
+    }
+}
+
+/// The prototype with so many words.
+fn filled(rng: &mut Rng, mut prototype: Prototype, words: u32) -> Prototype {
     for pc in 0..words as usize {
         let word = word(rng, &prototype, pc, words);
         prototype.words.push(word);
     }
     prototype
+}
+
+/// A prototype of up to so many words; few have none.
+pub fn prototype(rng: &mut Rng, most_words: u32) -> Prototype {
+    let prototype = without_words(rng);
+    let words = if rng.one_in(40) { 0 } else { rng.range(1, most_words) };
+    filled(rng, prototype, words)
+}
+
+/// A prototype of so many words.
+pub fn prototype_of(rng: &mut Rng, words: u32) -> Prototype {
+    let prototype = without_words(rng);
+    filled(rng, prototype, words)
 }
 
 pub fn add(list: &mut List) {

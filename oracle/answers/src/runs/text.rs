@@ -20,12 +20,15 @@ fn end(execution: Option<&Execution>) -> String {
     }
 }
 
-/// The pcs that an execution meets whose words are executable and name an operand that is not inside, in ascending order.
-pub fn outside(prototype: &Prototype, execution: Option<&Execution>) -> Vec<usize> {
+/// The pcs that an execution meets, each once and in ascending order: those of companions, and those of executable words
+/// that name an operand that is not inside.
+pub fn companions_and_outside(prototype: &Prototype, execution: Option<&Execution>) -> [Vec<usize>; 2] {
     let companions = prototype.companions();
-    let is_outside = |pc: usize| named(prototype, pc).iter().any(|operand| !operand.is_inside(prototype));
-    let met = |pc: usize| execution.is_some_and(|execution| execution.met.contains(&pc));
-    (0..prototype.words.len()).filter(|pc| met(*pc) && !companions[*pc] && is_outside(*pc)).collect()
+    let is_outside = |pc: &usize| named(prototype, *pc).iter().any(|operand| !operand.is_inside(prototype));
+    let met = |pc: &usize| execution.is_some_and(|execution| execution.met.contains(pc));
+    let (owned, executable): (Vec<usize>, Vec<usize>) =
+        (0..prototype.words.len()).filter(met).partition(|pc| companions[*pc]);
+    [owned, executable.into_iter().filter(is_outside).collect()]
 }
 
 /// A run with its answer, and the blank line after it.
@@ -33,12 +36,14 @@ pub fn write_run(run: &Run) -> String {
     let Prototype { constants, upvalues, stack, children, words } = &run.prototype;
     let execution = execute(&run.prototype, &run.choices);
     let met = execution.as_ref().map_or(&[][..], |execution| &execution.met);
+    let [companions, outside] = companions_and_outside(&run.prototype, execution.as_ref());
     format!("run {}\nprototype {constants} {upvalues} {stack}\n", run.label)
         + &line("children", children)
         + &line("words", words.iter().map(|word| format!("{word:08x}")))
         + &line("choices", run.choices.iter().map(|choice| u32::from(*choice == Choice::Off)))
         + &line("met", met)
         + &format!("end {}\n", end(execution.as_ref()))
-        + &line("outside", outside(&run.prototype, execution.as_ref()))
+        + &line("companions", companions)
+        + &line("outside", outside)
         + "\n"
 }

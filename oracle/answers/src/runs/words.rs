@@ -47,10 +47,14 @@ fn add_unknown(list: &mut List) {
     }
 }
 
+/// A word of each kind.
+pub fn kinds() -> impl Iterator<Item = u32> {
+    (0..39).chain([63]).map(word).chain(FURTHER)
+}
+
 pub fn add(list: &mut List) {
     add_unknown(list);
-    let all = (0..39).chain([63]).map(word).chain(FURTHER);
-    for word in all {
+    for word in kinds() {
         let [first, alone, last, behind, again] = codes(word);
         list.add_each("word", &with_words(&first), &["0", "1", "00000", "11111"]);
         list.add_each("word", &with_words(&alone), &["", "0", "1"]);

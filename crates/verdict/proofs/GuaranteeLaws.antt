@@ -7,14 +7,14 @@ use mathlib.Core.List.{List, ◌++◌, flat_map}
 use lib.ListN.{length, drop}
 use mathlib.Core.Option.{none}
 use Rattle.opcodes.specs.Bytes.{i32_record}
-use Rattle.chunk.specs.Table.{rows}
+use Rattle.chunk.specs.Table.{rows, protos}
 use Rattle.chunk.specs.Roles.{roles, role_bytes, records_of}
 use Rattle.chunk.specs.Refusals.{Refused, image_refusal, roles_refusal, word_total}
 use Rattle.chunk.specs.Calls.{accepted, refused, roles_after, bindings_answer, bindings_after}
 use Rattle.verdict.specs.Walk.{Verdict, most_diagnostics, diagnostic_fields, diagnostic_bytes}
 use Rattle.verdict.specs.Image.{Image, image_protos, diagnostics, verdict}
 use Rattle.verdict.specs.Check.{Checked, checked, check_refusal, check_answer, diagnostics_after}
-use Rattle.verdict.specs.Statements.{Guarantee, RolesLeft}
+use Rattle.verdict.specs.Statements.{Guarantee}
 use Rattle.opcodes.proofs.AllLaws.{all_imp, all_of}
 use Rattle.chunk.proofs.UntouchedLaws.{refused_leaves, roles_left, bindings_untouched, bindings_roles_left}
 use Rattle.opcodes.proofs.ListLaws.{length_flat_map}
@@ -45,10 +45,16 @@ check_guaranteed i role_length diagnostics_length c e =
       most = subst⁻¹ (λ (m : ℕ). m ≤ most_diagnostics) n (at_most i a);
     }
 
--- what a refused call leaves of the role buffer, from what it met
+-- what a refused call leaves of the role buffer
+abbrev pub RolesLeft : List ℕ → List ℕ → List ℕ → Refused → Type 0
+RolesLeft table words old r =
+    (r.number ≢ 8 → roles_after table words old ≡ old)
+    × (r.number ≡ 8 → roles_after table words old ≡ records_of (flat_map roles (protos table words)) ++ drop (role_bytes * word_total (rows table)) old)
+
+-- from what it met
 roles_of_refused : (table words old : List ℕ) (r : Refused) → (r.number ≡ 8 → roles_refusal table words (length old) ≡ none) → (r.number ≢ 8 → roles_after table words old ≡ old)
     → RolesLeft table words old r
-roles_of_refused table words old r met left = record { written = λ h. roles_written table words old (met h); untouched = left }
+roles_of_refused table words old r met left = (left, λ h. roles_written table words old (met h))
 
 -- a refused bindings call or check call leaves its buffers, but 8 comes with the roles written
 pub bindings_leaves : (table words role_buffer bindings : List ℕ) (r : Refused) → bindings_answer table words (length role_buffer) (length bindings) ≡ refused r

@@ -3,17 +3,16 @@ use Prim.Native.Nat.{ℕ, ◌+◌}
 use mathlib.Core.Path.{◌≡◌, refl, sym, subst}
 use mathlib.Core.Logic.{◌↔◌}
 use mathlib.Core.Bool.{Bool, true, false, not, ◌&&◌}
-use mathlib.Core.List.{List, [], ◌∷◌, map, flat_map, flatten}
+use mathlib.Core.List.{List, [], ◌∷◌, map}
 use lib.Dec.{T, T_not, eqb, leb, ltb, nleb→lt}
 use lib.ListN.{length}
 use lib.IntN.{ℤ, pos, negsuc}
-use Rattle.opcodes.specs.Lists.{All, all_nil, all_cons, elem, only, up_from, select, keep_if}
-use Rattle.opcodes.specs.Words.{B, C}
+use Rattle.opcodes.specs.Lists.{All, all_nil, all_cons, elem, only, select, keep_if}
 use Rattle.opcodes.proofs.AllLaws.{all_of, all_map, all_head, all_tail, all_flatten, flatten_all, all_flat_map, flat_map_all, all_up_from, up_from_all}
 use Rattle.opcodes.proofs.TestLaws.{by_cond}
 use Rattle.chunk.specs.Table.{Proto}
 use Rattle.chunk.specs.Roles.{is_executable, role_at, word_at, binding_words}
-use Rattle.verdict.specs.Operands.{is_binding, is_jump, target, is_skip, skip_target, constant_bx, upvalue_b, flag_a, flag_limit, register_a, span_ends, register_in, constant_in, child_bx, captured_register, captured_upvalue}
+use Rattle.verdict.specs.Operands.{is_binding, is_jump, target, is_skip, skip_target, flag_a, captured_register, captured_upvalue}
 use Rattle.verdict.specs.Diagnostics.{Diagnostic, diagnostic, not_below, target_diagnostics, jump_diagnostics, skip_diagnostics, opcode_value, binding_diagnostics, operand_diagnostics, known_diagnostics}
 use Rattle.verdict.specs.Rules.{Below, registers_of, constants_of, CapturesInRange, OperandsInRange}
 use Rattle.verdict.specs.Statements.{operand_codes, OfNoOperand}
@@ -88,30 +87,12 @@ module _ (p : Proto) (pc : ℕ) where
   abbrev w : ℕ
   w = word_at p pc
 
-  -- its diagnostics: codes 5 and 6, 7 to 16, and those of companions
-  abbrev parts : List (List Diagnostic)
-  parts = jump_diagnostics p pc w ∷ skip_diagnostics p pc w ∷ operand_diagnostics p pc w ∷ flat_map (binding_diagnostics p) (up_from (pc + 1) (binding_words p pc)) ∷ []
-
-  abbrev limits : List (List Diagnostic)
-  limits =
-      not_below pc 7 p.constants (constant_bx w)
-      ∷ not_below pc 8 p.upvalues (upvalue_b w)
-      ∷ not_below pc 9 flag_limit (flag_a w)
-      ∷ not_below pc 10 p.stack (register_a w)
-      ∷ not_below pc 11 p.stack (span_ends w)
-      ∷ not_below pc 12 p.stack (register_in B w)
-      ∷ not_below pc 13 p.stack (register_in C w)
-      ∷ not_below pc 14 p.constants (constant_in B w)
-      ∷ not_below pc 15 p.constants (constant_in C w)
-      ∷ not_below pc 16 (length p.children) (child_bx w)
-      ∷ []
-
-  operands_of : All OfNoOperand (flatten parts) → OperandsInRange p pc
-  unfolding operand_diagnostics registers_of constants_of
+  operands_of : All OfNoOperand (known_diagnostics p pc w) → OperandsInRange p pc
+  unfolding known_diagnostics operand_diagnostics registers_of constants_of
   operands_of k =
-      let each = flatten_all parts k in
+      let each = flatten_all _ k in
       let bound = flat_map_all OfNoOperand (binding_diagnostics p) _ (all_head (all_tail (all_tail (all_tail each)))) in
-      let l7 = flatten_all limits (all_head (all_tail (all_tail each))) in
+      let l7 = flatten_all _ (all_head (all_tail (all_tail each))) in
       let l8 = all_tail l7 in
       let l10 = all_tail (all_tail l8) in
       let l11 = all_tail l10 in
@@ -127,11 +108,11 @@ module _ (p : Proto) (pc : ℕ) where
         captures = λ j h. captures_of p (pc + 1 + j) (up_from_all (λ at. All OfNoOperand (binding_diagnostics p at)) (pc + 1) (binding_words p pc) bound j h);
       }
 
-  of_operands : OperandsInRange p pc → All OfNoOperand (flatten parts)
-  unfolding operand_diagnostics registers_of constants_of
+  of_operands : OperandsInRange p pc → All OfNoOperand (known_diagnostics p pc w)
+  unfolding known_diagnostics operand_diagnostics registers_of constants_of
   of_operands k =
-      let rs = flatten_all (register_a w ∷ span_ends w ∷ register_in B w ∷ register_in C w ∷ []) k.register in
-      let cs = flatten_all (constant_bx w ∷ constant_in B w ∷ constant_in C w ∷ []) k.constant in
+      let rs = flatten_all _ k.register in
+      let cs = flatten_all _ k.constant in
       let within =
       all_flatten (
       all_cons (of_below pc 7 _ _ tt (all_head cs))
@@ -148,5 +129,4 @@ module _ (p : Proto) (pc : ℕ) where
       all_flatten (all_cons (other_jump p pc w) (all_cons (other_skip p pc w) (all_cons within (all_cons bound all_nil))))
 
 pub operands_by_codes : (p : Proto) (pc : ℕ) → OperandsInRange p pc ↔ All OfNoOperand (known_diagnostics p pc (word_at p pc))
-unfolding known_diagnostics
 operands_by_codes p pc = (of_operands p pc, operands_of p pc)

@@ -16,7 +16,6 @@ use Rattle.chunk.specs.Table.{Proto}
 use Rattle.chunk.specs.Roles.{is_executable, executable_at, Executable, role_at, word_at, owned, existing, companions, is_truncated, binding_words}
 use Rattle.verdict.specs.Operands.{is_unknown, is_binding, is_jump, target, is_skip, skip_target, constant_bx, upvalue_b, flag_a, flag_limit, register_a, span_ends, register_in, constant_in, child_bx, captured_register, captured_upvalue}
 use Rattle.verdict.specs.Diagnostics.{Diagnostic, diagnostic, is_error, not_below, truncation_at, opcode_diagnostics, target_diagnostics, jump_diagnostics, skip_diagnostics, binding_diagnostics, operand_diagnostics, known_diagnostics, word_diagnostics, diagnostics_at}
-use Rattle.verdict.specs.Statements.{RulesByCodes}
 use Rattle.verdict.specs.Rules.{Below, registers_of, constants_of, Lands, JumpKept, BindingKept, RulesAt, WellFormed}
 use Rattle.opcodes.proofs.AllLaws.{all_left, all_right, all_head, all_tail, all_flatten, flatten_all}
 use Rattle.opcodes.proofs.TestLaws.{t_true, t_false, not_not, double_not, by_cond}
@@ -275,33 +274,54 @@ well_formed_iff_none p =
 tells_iff : {ds : List Diagnostic} {X : Type 0} → Tells ds X → X ↔ (ds ≡ [])
 tells_iff t = (t.none, λ e. t.clean (subst (λ (l : List Diagnostic). All Warns l) (sym e) all_nil))
 
-pub rules_by_codes : (p : Proto) (pc : ℕ) → RulesByCodes p pc
-unfolding registers_of constants_of jump_diagnostics opcode_diagnostics
-rules_by_codes p pc =
-    let w = word_at p pc in
-    record {
-      truncated = tells_iff (tells_truncation p pc);
-      opcode = tells_iff (tells_only (is_unknown w) _ tt);
-      jump = tells_iff (
-          tells_as (λ (t, (s, _)). record { target = t; skip = s }) (λ k. k.target & k.skip & tt)
-          (tells_if (is_jump w) (tells_target p pc (target pc w)) and tells_skip p pc w and tell_nil).all
-          );
-      constant = tells_iff (
-          tells_as (λ (k, (b, (c, _))). all_flatten (all_cons k (all_cons b (all_cons c all_nil))))
-          (λ h.
-          let k = flatten_all (constant_bx w ∷ constant_in B w ∷ constant_in C w ∷ []) h in
-          all_head k & all_head (all_tail k) & all_head (all_tail (all_tail k)) & tt)
-          (tells_below pc 7 p.constants (constant_bx w) tt and tells_below pc 14 p.constants (constant_in B w) tt and tells_below pc 15 p.constants (constant_in C w) tt and tell_nil).all
-          );
-      upvalue = tells_iff (tells_below pc 8 p.upvalues (upvalue_b w) tt);
-      flag = tells_iff (tells_below pc 9 flag_limit (flag_a w) tt);
-      register = tells_iff (
-          tells_as (λ (a, (s, (b, (c, _)))). all_flatten (all_cons a (all_cons s (all_cons b (all_cons c all_nil)))))
-          (λ h.
-          let r = flatten_all (register_a w ∷ span_ends w ∷ register_in B w ∷ register_in C w ∷ []) h in
-          all_head r & all_head (all_tail r) & all_head (all_tail (all_tail r)) & all_head (all_tail (all_tail (all_tail r))) & tt)
-          (tells_below pc 10 p.stack (register_a w) tt and tells_below pc 11 p.stack (span_ends w) tt and tells_below pc 12 p.stack (register_in B w) tt and tells_below pc 13 p.stack (register_in C w) tt and tell_nil).all
-          );
-      proto = tells_iff (tells_below pc 16 (length p.children) (child_bx w) tt);
-      binding = tells_iff (tells_up_from (binding_diagnostics p) (λ at. BindingKept p (word_at p at)) (pc + 1) (binding_words p pc) (λ j h. tells_binding p (pc + 1 + j)));
-    }
+module _ (p : Proto) (pc : ℕ) where
+  abbrev word : ℕ
+  word = word_at p pc
+
+  pub truncated_by_codes : T (not (is_truncated p pc)) ↔ (truncation_at p pc ≡ [])
+  truncated_by_codes = tells_iff (tells_truncation p pc)
+
+  pub opcode_by_code : T (not (is_unknown word)) ↔ (opcode_diagnostics pc word ≡ [])
+  unfolding opcode_diagnostics
+  opcode_by_code = tells_iff (tells_only (is_unknown word) _ tt)
+
+  pub jump_by_codes : JumpKept p pc ↔ (flatten (jump_diagnostics p pc word ∷ skip_diagnostics p pc word ∷ []) ≡ [])
+  unfolding jump_diagnostics
+  jump_by_codes = tells_iff (
+      tells_as (λ (t, (s, _)). record { target = t; skip = s }) (λ k. k.target & k.skip & tt)
+      (tells_if (is_jump word) (tells_target p pc (target pc word)) and tells_skip p pc word and tell_nil).all
+      )
+
+  pub constant_by_codes : Below p.constants (constants_of word)
+      ↔ (flatten (not_below pc 7 p.constants (constant_bx word) ∷ not_below pc 14 p.constants (constant_in B word) ∷ not_below pc 15 p.constants (constant_in C word) ∷ []) ≡ [])
+  unfolding constants_of
+  constant_by_codes = tells_iff (
+      tells_as (λ (k, (b, (c, _))). all_flatten (all_cons k (all_cons b (all_cons c all_nil))))
+      (λ h.
+      let k = flatten_all _ h in
+      all_head k & all_head (all_tail k) & all_head (all_tail (all_tail k)) & tt)
+      (tells_below pc 7 p.constants (constant_bx word) tt and tells_below pc 14 p.constants (constant_in B word) tt and tells_below pc 15 p.constants (constant_in C word) tt and tell_nil).all
+      )
+
+  pub upvalue_by_code : Below p.upvalues (upvalue_b word) ↔ (not_below pc 8 p.upvalues (upvalue_b word) ≡ [])
+  upvalue_by_code = tells_iff (tells_below pc 8 p.upvalues (upvalue_b word) tt)
+
+  pub flag_by_code : Below flag_limit (flag_a word) ↔ (not_below pc 9 flag_limit (flag_a word) ≡ [])
+  flag_by_code = tells_iff (tells_below pc 9 flag_limit (flag_a word) tt)
+
+  pub register_by_codes : Below p.stack (registers_of word)
+      ↔ (flatten (not_below pc 10 p.stack (register_a word) ∷ not_below pc 11 p.stack (span_ends word) ∷ not_below pc 12 p.stack (register_in B word) ∷ not_below pc 13 p.stack (register_in C word) ∷ []) ≡ [])
+  unfolding registers_of
+  register_by_codes = tells_iff (
+      tells_as (λ (a, (s, (b, (c, _)))). all_flatten (all_cons a (all_cons s (all_cons b (all_cons c all_nil)))))
+      (λ h.
+      let r = flatten_all _ h in
+      all_head r & all_head (all_tail r) & all_head (all_tail (all_tail r)) & all_head (all_tail (all_tail (all_tail r))) & tt)
+      (tells_below pc 10 p.stack (register_a word) tt and tells_below pc 11 p.stack (span_ends word) tt and tells_below pc 12 p.stack (register_in B word) tt and tells_below pc 13 p.stack (register_in C word) tt and tell_nil).all
+      )
+
+  pub proto_by_code : Below (length p.children) (child_bx word) ↔ (not_below pc 16 (length p.children) (child_bx word) ≡ [])
+  proto_by_code = tells_iff (tells_below pc 16 (length p.children) (child_bx word) tt)
+
+  pub binding_by_codes : ((j : ℕ) → j < binding_words p pc → BindingKept p (word_at p (pc + 1 + j))) ↔ (flat_map (binding_diagnostics p) (up_from (pc + 1) (binding_words p pc)) ≡ [])
+  binding_by_codes = tells_iff (tells_up_from (binding_diagnostics p) (λ at. BindingKept p (word_at p at)) (pc + 1) (binding_words p pc) (λ j h. tells_binding p (pc + 1 + j)))

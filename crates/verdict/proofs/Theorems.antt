@@ -2,37 +2,37 @@
 -- the modules beside it. Witnesses has, for each rule and each claim about runs, a prototype for which it is false. The definitions are in specs/, but for one image, `fullest` in MostLaws. Assumes nothing.
 use Prim.Native.Nat.{ℕ, ◌+◌, ◌*◌, ◌≤◌, ◌<◌}
 use mathlib.Core.Path.{◌≡◌, refl, ◌∙◌, subst⁻¹}
-use mathlib.Core.Logic.{◌↔◌, ◌⊎◌}
+use mathlib.Core.Logic.{◌↔◌, ◌⊎◌, ◌≢◌}
 use mathlib.Core.Bool.{Bool, true, false, not, ◌&&◌, ◌||◌, cond}
-use mathlib.Core.List.{List, [], ◌∷◌, ◌++◌, map, flat_map}
+use mathlib.Core.List.{List, [], ◌∷◌, ◌++◌, map, flat_map, flatten}
 use lib.Dec.{T, ltb}
 use borrow.Author.Tests.{lt-ltb, le-ltb}
 use lib.IntN.{ℤ, pos, negsuc}
 use lib.ListN.{length, get_or, drop, set}
-use Rattle.opcodes.specs.Lists.{All, Some}
-use Rattle.opcodes.specs.Words.{is, operand, C, JMP, FORPREP, FORLOOP, EQ, LT, LE, TEST, TESTSET, TFORLOOP, LOADBOOL, CLOSURE, SETLIST, RETURN, TAILCALL}
+use Rattle.opcodes.specs.Lists.{All, Some, up_from}
+use Rattle.opcodes.specs.Words.{is, operand, B, C, JMP, FORPREP, FORLOOP, EQ, LT, LE, TEST, TESTSET, TFORLOOP, LOADBOOL, CLOSURE, SETLIST, RETURN, TAILCALL}
 use Rattle.opcodes.specs.Bytes.{i32_record}
 use Rattle.chunk.specs.Table.{rows, Proto, protos}
-use Rattle.chunk.specs.Roles.{Instruction, is_executable, Executable, claims, roles, role_at, word_at, companions, role_bytes, records_of}
+use Rattle.chunk.specs.Roles.{Instruction, is_executable, Executable, claims, roles, role_at, word_at, companions, is_truncated, binding_words, role_bytes, records_of}
 use Rattle.chunk.specs.Bindings.{binding_bytes, binding_records}
 use Rattle.std.proofs.Math.Option.{none}
 use Rattle.chunk.specs.Refusals.{Refused, image_refusal, word_total}
 use Rattle.chunk.specs.Calls.{accepted, refused, roles_answer, roles_after, image_bindings, bindings_refusal, bindings_answer, bindings_after}
-use Rattle.verdict.specs.Operands.{target, is_loadbool_skip, conditional_skips}
-use Rattle.verdict.specs.Diagnostics.{Step, tested_step, proto_steps, truncation_at, known_diagnostics, diagnostics_at}
+use Rattle.verdict.specs.Operands.{is_unknown, target, is_loadbool_skip, conditional_skips, constant_bx, upvalue_b, flag_a, flag_limit, register_a, span_ends, register_in, constant_in, child_bx}
+use Rattle.verdict.specs.Diagnostics.{Step, tested_step, proto_steps, truncation_at, opcode_diagnostics, jump_diagnostics, skip_diagnostics, not_below, binding_diagnostics, known_diagnostics, diagnostics_at}
 use Rattle.verdict.specs.Walk.{Walk, in_row, diagnostic_fields, diagnostic_bytes, count_n, advance, max_diagnostics, most_diagnostics, ValidForParser, Invalid}
 use Rattle.verdict.specs.Image.{Image, image_protos, image_walk, diagnostics, verdict}
 use Rattle.verdict.specs.Check.{Checked, check_answer, diagnostics_after}
-use Rattle.verdict.specs.Rules.{OperandsInRange, WellFormed}
+use Rattle.verdict.specs.Rules.{Below, registers_of, constants_of, JumpKept, BindingKept, OperandsInRange, WellFormed}
 use Rattle.verdict.specs.Executions.{Exit, ended_at, no_word_at, out_of_choices, at, left, arrive, next, meet, run_from, run, SafeRun}
-use Rattle.verdict.specs.Statements.{large_stacks, IsError, RulesByCodes, OfNoOperand, walk_by_children, RolesLeft, GaveOut, Passed, Guarantee}
+use Rattle.verdict.specs.Statements.{large_stacks, IsError, OfNoOperand, walk_by_children, GaveOut, Passed, Guarantee}
 use Rattle.verdict.specs.Examples.{result, examples, misreadings, word_runs, run_examples}
 use Rattle.opcodes.proofs.AllLaws.{all_imp}
 use Rattle.chunk.proofs.RefusalLaws.{or_else_none}
 use Rattle.chunk.proofs.WrittenLaws.{accepted_none, accepted_result, roles_written, bindings_written}
 use Rattle.chunk.proofs.UntouchedLaws.{roles_untouched}
 use Rattle.chunk.proofs.RoleLaws.{owned_role, companion_unread, roles_by_children}
-use Rattle.verdict.proofs.RuleLaws.{well_formed_iff_none, rules_by_codes}
+use Rattle.verdict.proofs.RuleLaws.{well_formed_iff_none, truncated_by_codes, opcode_by_code, jump_by_codes, constant_by_codes, upvalue_by_code, flag_by_code, register_by_codes, proto_by_code, binding_by_codes}
 use Rattle.verdict.proofs.ExecutionLaws.{runs_safe}
 use Rattle.verdict.proofs.RunLaws.{one_way, jump_goes, loop_goes, skip_goes, loadbool_goes, owner_goes, return_ends, tailcall_goes, other_goes, ends_there, goes_past, starts_at_0, empty_meets_none, goes_on_from, left_meets_no_more}
 use Rattle.verdict.proofs.OperandLaws.{operands_by_codes}
@@ -50,9 +50,45 @@ use Rattle.verdict.proofs.ExampleLaws.{examples_hold, misreadings_excluded, word
 pub rules_are_the_conditions : (p : Proto) → WellFormed p ↔ ((pc : ℕ) → pc < length p.code → (truncation_at p pc ≡ []) × (diagnostics_at p pc ≡ []))
 rules_are_the_conditions p = well_formed_iff_none p
 
--- and each of them is that of its own codes
-pub rules_have_their_codes : (p : Proto) (pc : ℕ) → RulesByCodes p pc
-rules_have_their_codes p pc = rules_by_codes p pc
+-- and each rule is that the diagnostics of its codes are not there, one by one
+
+-- "truncated 1, 2"
+pub truncated_is_1_2 : (p : Proto) (pc : ℕ) → T (not (is_truncated p pc)) ↔ (truncation_at p pc ≡ [])
+truncated_is_1_2 p pc = truncated_by_codes p pc
+
+-- "opcode 4"
+pub opcode_is_4 : (p : Proto) (pc : ℕ) → T (not (is_unknown (word_at p pc))) ↔ (opcode_diagnostics pc (word_at p pc) ≡ [])
+opcode_is_4 p pc = opcode_by_code p pc
+
+-- "jump 5, 6"
+pub jump_is_5_6 : (p : Proto) (pc : ℕ) → JumpKept p pc ↔ (flatten (jump_diagnostics p pc (word_at p pc) ∷ skip_diagnostics p pc (word_at p pc) ∷ []) ≡ [])
+jump_is_5_6 p pc = jump_by_codes p pc
+
+-- "constant 7, 14, 15"
+pub constant_is_7_14_15 : (p : Proto) (pc : ℕ) → Below p.constants (constants_of (word_at p pc))
+    ↔ (flatten (not_below pc 7 p.constants (constant_bx (word_at p pc)) ∷ not_below pc 14 p.constants (constant_in B (word_at p pc)) ∷ not_below pc 15 p.constants (constant_in C (word_at p pc)) ∷ []) ≡ [])
+constant_is_7_14_15 p pc = constant_by_codes p pc
+
+-- "upvalue 8"
+pub upvalue_is_8 : (p : Proto) (pc : ℕ) → Below p.upvalues (upvalue_b (word_at p pc)) ↔ (not_below pc 8 p.upvalues (upvalue_b (word_at p pc)) ≡ [])
+upvalue_is_8 p pc = upvalue_by_code p pc
+
+-- "flag 9"
+pub flag_is_9 : (p : Proto) (pc : ℕ) → Below flag_limit (flag_a (word_at p pc)) ↔ (not_below pc 9 flag_limit (flag_a (word_at p pc)) ≡ [])
+flag_is_9 p pc = flag_by_code p pc
+
+-- "register 10 to 13"
+pub register_is_10_to_13 : (p : Proto) (pc : ℕ) → Below p.stack (registers_of (word_at p pc))
+    ↔ (flatten (not_below pc 10 p.stack (register_a (word_at p pc)) ∷ not_below pc 11 p.stack (span_ends (word_at p pc)) ∷ not_below pc 12 p.stack (register_in B (word_at p pc)) ∷ not_below pc 13 p.stack (register_in C (word_at p pc)) ∷ []) ≡ [])
+register_is_10_to_13 p pc = register_by_codes p pc
+
+-- "part 16"
+pub part_is_16 : (p : Proto) (pc : ℕ) → Below (length p.children) (child_bx (word_at p pc)) ↔ (not_below pc 16 (length p.children) (child_bx (word_at p pc)) ≡ [])
+part_is_16 p pc = proto_by_code p pc
+
+-- "binding 17, and 12 and 8 at companions"
+pub binding_is_17_12_8 : (p : Proto) (pc : ℕ) → ((j : ℕ) → j < binding_words p pc → BindingKept p (word_at p (pc + 1 + j))) ↔ (flat_map (binding_diagnostics p) (up_from (pc + 1) (binding_words p pc)) ≡ [])
+binding_is_17_12_8 p pc = binding_by_codes p pc
 
 -- ---- a. a prototype that keeps the rules: for every list of choices the whole run from pc 0 meets only executable words with all named operands in
 -- range, and leaves only at RETURN, TAILCALL or past the last word
@@ -273,12 +309,17 @@ pub roles_call_refused : (table words role_buffer : List ℕ) (r : Refused) → 
 roles_call_refused table words role_buffer r e = roles_untouched table words role_buffer r e
 
 pub bindings_call_refused : (table words role_buffer bindings : List ℕ) (r : Refused) → bindings_answer table words (length role_buffer) (length bindings) ≡ refused r
-    → (bindings_after table words (length role_buffer) bindings ≡ bindings) × RolesLeft table words role_buffer r
-bindings_call_refused table words role_buffer bindings r e = bindings_leaves table words role_buffer bindings r e
+    → (bindings_after table words (length role_buffer) bindings ≡ bindings)
+    × (r.number ≢ 8 → roles_after table words role_buffer ≡ role_buffer)
+    × (r.number ≡ 8 → roles_after table words role_buffer ≡ records_of (flat_map roles (protos table words)) ++ drop (role_bytes * word_total (rows table)) role_buffer)
+bindings_call_refused table words role_buffer bindings r e = let left = bindings_leaves table words role_buffer bindings r e in (left.0, left.1.0, left.1.1)
 
 pub check_call_refused : (i : Image) (role_buffer buffer : List ℕ) (r : Refused) → check_answer i (length role_buffer) (length buffer) ≡ refused r
-    → (diagnostics_after i (length role_buffer) buffer ≡ buffer) × RolesLeft i.table i.words role_buffer r
-check_call_refused i role_buffer buffer r e = check_leaves i role_buffer buffer r e
+    → (diagnostics_after i (length role_buffer) buffer ≡ buffer)
+    × (r.number ≢ 8 → roles_after i.table i.words role_buffer ≡ role_buffer)
+    × (r.number ≡ 8 → roles_after i.table i.words role_buffer ≡ records_of (flat_map roles (image_protos i)) ++ drop (role_bytes * word_total (rows i.table)) role_buffer)
+unfolding image_protos
+check_call_refused i role_buffer buffer r e = let left = check_leaves i role_buffer buffer r e in (left.0, left.1.0, left.1.1)
 
 -- ---- an accepted call answers the number of its records; they stand in front of its buffers, and "what lies past the records is unchanged"
 

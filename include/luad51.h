@@ -150,7 +150,7 @@ enum luad51_code {
  * CLOSURE or SETLIST.
  */
 LUAD51_CALL
-uint64_t luad51_roles(const uint8_t *protos, size_t protos_len, const uint8_t *words, size_t words_len,
+uint64_t luad51_roles(const uint8_t *table, size_t table_len, const uint8_t *words, size_t words_len,
                       uint8_t *roles, size_t roles_len);
 
 /* Writes the roles as luad51_roles does, and the binding of every upvalue: in row order, a row's upvalues in order. A
@@ -164,7 +164,7 @@ uint64_t luad51_roles(const uint8_t *protos, size_t protos_len, const uint8_t *w
  * overwrites it. Row 0 is nobody's child: nothing binds its upvalues.
  */
 LUAD51_CALL
-uint64_t luad51_bindings(const uint8_t *protos, size_t protos_len, const uint8_t *words, size_t words_len,
+uint64_t luad51_bindings(const uint8_t *table, size_t table_len, const uint8_t *words, size_t words_len,
                          uint8_t *roles, size_t roles_len, uint8_t *bindings, size_t bindings_len);
 
 /* Writes the roles as luad51_roles does, and what is wrong with the image. `warnings` and `errors` are the numbers of
@@ -179,7 +179,7 @@ uint64_t luad51_bindings(const uint8_t *protos, size_t protos_len, const uint8_t
  * image is walked once; otherwise twice, to count the diagnostics and to write them.
  */
 LUAD51_CALL
-uint64_t luad51_check(const uint8_t *protos, size_t protos_len, const uint8_t *words, size_t words_len,
+uint64_t luad51_check(const uint8_t *table, size_t table_len, const uint8_t *words, size_t words_len,
                       uint32_t warnings, uint32_t errors, uint8_t *roles, size_t roles_len, uint8_t *diagnostics,
                       size_t diagnostics_len);
 

@@ -1,5 +1,5 @@
 // The columns of a word's line.
-use opcodes::bytes::{write_i32, write_record};
+use base::bytes::{write_i32, write_record};
 use opcodes::{Field, Opcode51, OpcodeField, RawInstruction51};
 use std::fmt::Display;
 use std::io;

@@ -3,7 +3,7 @@
 // The bytes of a word's line.
 pub const LINE_BYTES: usize = 9;
 
-// The word of a line, if it is in form. Not the `parse_word` of check_listing: of the layers this program has the words alone, which are below the
+// The word of a line, if it is in form. Not the `parse_word` of `listing`: of the layers this program has the words alone, which are below the
 // roles and the check (document 01: each crate relies on the one below), and parse_word's definition is the listing's.
 pub fn parse_line(line: &[u8]) -> Option<u32> {
     let digits = line.strip_suffix(b"\n")?.as_array::<8>()?;

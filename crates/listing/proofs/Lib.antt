@@ -1,7 +1,7 @@
-pub mod ExampleLaws
-pub mod LineLaws
-pub mod FormLaws
-pub mod LongestLaws
-pub mod PrefixLaws
-pub mod DecimalLaws
-pub mod RefusalNumberLaws
+pub mod DigitLaws
+pub mod DecimalLineLaws
+pub mod NextLineLaws
+pub mod ReadLaws
+pub mod PrintLaws
+pub mod AnswerLaws
+pub mod OutputLaws

@@ -1,5 +1,1 @@
-pub mod Text
-pub mod Listing
-pub mod Packcheck
-pub mod Longest
-pub mod Examples
+pub mod Terms

@@ -1,2 +1,10 @@
-// The listing that packcheck reads and the text that it writes: definitions, in specs/, and laws.
+// From the bytes of a listing to the bytes of what packcheck writes for it.
 #![tactic(auto)]
+
+pub mod check;
+mod lines;
+mod numbers;
+mod printer;
+mod reader;
+mod report;
+pub mod run;

@@ -4,14 +4,14 @@ use Rattle.std.specs.Prelude.{◌≡◌, refl, ℕ, ◌+◌, ◌*◌, ◌/◌, �
 use native.Mathlib.Omega.{arith}
 use borrow.Author.Tests.{eqb-true}
 use mathlib.Core.Path.{sym, ◌∙◌, ap, subst}
-use Rattle.opcodes.specs.Lists.{All}
-use Rattle.opcodes.proofs.TestLaws.{true≢false}
-use Rattle.chunk.specs.Refusals.{Refused}
-use Rattle.chunk.specs.Calls.{Answer, refused, accepted}
-use Rattle.verdict.specs.Walk.{Verdict, ValidForParser, Incomplete, Invalid}
-use Rattle.verdict.specs.Image.{Image, image_protos}
-use Rattle.verdict.specs.Check.{Checked}
-use Rattle.verdict.specs.Statements.{Guarantee, Passed}
+use Rattle.base.specs.Lists.{All}
+use Rattle.base.proofs.TestLaws.{true≢false}
+use Rattle.roles_spec.specs.Refusals.{Refused}
+use Rattle.roles_spec.specs.Calls.{Answer, refused, accepted}
+use Rattle.validator_spec.specs.Walk.{Verdict, ValidForParser, Incomplete, Invalid}
+use Rattle.validator_spec.specs.Image.{Image, image_protos}
+use Rattle.validator_spec.specs.Check.{Checked}
+use Rattle.validator_spec.specs.Statements.{Guarantee, Passed}
 use Rattle.luad51.specs.Results.{check_result, checked_bit, verdict_number, verdict_of_number, refusal_in, figure_in, verdict_in, is_checked, is_pass, reading, answer_in, ReadAs, Reads, ReadsCheck, Guaranteed}
 use Rattle.luad51.specs.Examples.{examples}
 use Rattle.luad51.proofs.ResultLaws.{answer_kept}

@@ -4,10 +4,10 @@
 
 ghost use Rattle.std.specs.Prelude.{◌≡◌, ◌+◌, ◌<◌, ◌^◌, false, true, length};
 ghost use Rattle.luad51.specs.Results.{Guaranteed, ReadAs, Reads, ReadsCheck, check_result, checked_bit, count_result, packed, refused_result, verdict_number};
-ghost use Rattle.chunk.specs.Calls.{bindings_after, bindings_answer, roles_after, roles_answer};
+ghost use Rattle.roles_spec.specs.Calls.{bindings_after, bindings_answer, roles_after, roles_answer};
 ghost use Rattle.roles.specs.Terms.{answer_of, refused_of};
 ghost use Rattle.validator.specs.Terms.{answer_of as validationOf, image_of, verdict_of_case};
-ghost use Rattle.verdict.specs.Check.{check_answer, diagnostics_after};
+ghost use Rattle.validator_spec.specs.Check.{check_answer, diagnostics_after};
 
 use roles::calls::{write_bindings, write_roles};
 use roles::refusals::Refusal;
@@ -18,47 +18,47 @@ const CHECKED: u64 = 0x8000_0000_0000;
 
 // The roles call.
 #[unsafe(no_mangle)]
-pub extern "C" fn luad51_roles(protos: &[u8], words: &[u8], roles: &mut [u8]) -> u64
-    ensures value { result ≡ count_result (roles_answer protos.now words.now (length roles.old)) }
-    ensures reads { Reads result (roles_answer protos.now words.now (length roles.old)) }
-    ensures roles_after { roles.new ≡ roles_after protos.now words.now roles.old }
+pub extern "C" fn luad51_roles(table: &[u8], words: &[u8], roles: &mut [u8]) -> u64
+    ensures value { result ≡ count_result (roles_answer table.now words.now (length roles.old)) }
+    ensures reads { Reads result (roles_answer table.now words.now (length roles.old)) }
+    ensures roles_after { roles.new ≡ roles_after table.now words.now roles.old }
 {
-    count_result(write_roles(protos, words, roles))
+    count_result(write_roles(table, words, roles))
 }
 
 // The bindings call.
 #[unsafe(no_mangle)]
 pub extern "C" fn luad51_bindings(
-    protos: &[u8],
+    table: &[u8],
     words: &[u8],
     roles: &mut [u8],
     bindings: &mut [u8],
 ) -> u64
-    ensures value { result ≡ count_result (bindings_answer protos.now words.now (length roles.old) (length bindings.old)) }
-    ensures reads { Reads result (bindings_answer protos.now words.now (length roles.old) (length bindings.old)) }
-    ensures roles_after { roles.new ≡ roles_after protos.now words.now roles.old }
-    ensures bindings_after { bindings.new ≡ bindings_after protos.now words.now (length roles.old) bindings.old }
+    ensures value { result ≡ count_result (bindings_answer table.now words.now (length roles.old) (length bindings.old)) }
+    ensures reads { Reads result (bindings_answer table.now words.now (length roles.old) (length bindings.old)) }
+    ensures roles_after { roles.new ≡ roles_after table.now words.now roles.old }
+    ensures bindings_after { bindings.new ≡ bindings_after table.now words.now (length roles.old) bindings.old }
 {
-    count_result(write_bindings(protos, words, roles, bindings))
+    count_result(write_bindings(table, words, roles, bindings))
 }
 
 // The check call.
 #[unsafe(no_mangle)]
 pub extern "C" fn luad51_check(
-    protos: &[u8],
+    table: &[u8],
     words: &[u8],
     warnings: u32,
     errors: u32,
     roles: &mut [u8],
     diagnostics: &mut [u8],
 ) -> u64
-    ensures value { result ≡ check_result (check_answer (image_of protos.now words.now warnings errors) (length roles.old) (length diagnostics.old)) }
-    ensures reads_check { ReadsCheck result (check_answer (image_of protos.now words.now warnings errors) (length roles.old) (length diagnostics.old)) }
-    ensures roles_after { roles.new ≡ roles_after protos.now words.now roles.old }
-    ensures diagnostics_after { diagnostics.new ≡ diagnostics_after (image_of protos.now words.now warnings errors) (length roles.old) diagnostics.old }
-    ensures guaranteed { Guaranteed result (image_of protos.now words.now warnings errors) }
+    ensures value { result ≡ check_result (check_answer (image_of table.now words.now warnings errors) (length roles.old) (length diagnostics.old)) }
+    ensures reads_check { ReadsCheck result (check_answer (image_of table.now words.now warnings errors) (length roles.old) (length diagnostics.old)) }
+    ensures roles_after { roles.new ≡ roles_after table.now words.now roles.old }
+    ensures diagnostics_after { diagnostics.new ≡ diagnostics_after (image_of table.now words.now warnings errors) (length roles.old) diagnostics.old }
+    ensures guaranteed { Guaranteed result (image_of table.now words.now warnings errors) }
 {
-    check_result(validate_chunk_lua51(protos, words, warnings, errors, roles, diagnostics))
+    check_result(validate_chunk_lua51(table, words, warnings, errors, roles, diagnostics))
 }
 
 // The number of a refusal, or of diagnostics with the verdict's.

@@ -1,9 +1,4 @@
-pub mod AllLaws
-pub mod ByteLaws
 pub mod FieldLaws
-pub mod ListLaws
 pub mod OpcodeLaws
-pub mod PartLaws
-pub mod Signed
+pub mod OpcodeTestLaws
 pub mod SplitLaws
-pub mod TestLaws

@@ -8,11 +8,11 @@ use mathlib.Core.List.{List, [], ◌∷◌, map}
 use lib.Dec.{ltb}
 use lib.ListN.{length, get_or}
 use Rattle.std.proofs.Common.{ltb-false}
-use Rattle.opcodes.specs.Lists.{tabulate}
+use Rattle.base.specs.Lists.{tabulate}
 use Rattle.opcodes.specs.Words.{number_of, opcodes, opcode_at, opcode_of}
 use Rattle.opcodes.specs.declared.Opcode51.{Opcode51}
 use Rattle.opcodes.specs.declared.OpcodeField.TheVariants.{Known, Unknown}
-use Rattle.opcodes.proofs.ListLaws.{get_d_tabulate}
+use Rattle.base.proofs.ListLaws.{get_d_tabulate}
 
 -- the numbers of the list are 0 to 37
 in_order : map number_of opcodes ≡ tabulate 38 (λ n. n)

@@ -1,4 +1,2 @@
-pub mod Bytes
-pub mod Lists
 pub mod Names
 pub mod Words

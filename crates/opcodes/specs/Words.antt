@@ -1,6 +1,6 @@
 -- Words (document 01, "Words"; lopcodes.h of Lua 5.1): how a word splits, the opcodes, and what A, B and C are under each. Assumes nothing: these are definitions.
 use Rattle.std.specs.Prelude.{ℕ, zero, suc, ◌-◌, ◌/◌, ◌%◌, ◌^◌, Bool, not, cond, List, [], ◌∷◌, ◌++◌, leb, ℤ, pos, ◌-ℤ◌}
-use Rattle.opcodes.specs.Lists.{elem}
+use Rattle.base.specs.Lists.{elem}
 use Rattle.opcodes.specs.declared.Opcode51.{Opcode51}
 use Rattle.opcodes.specs.declared.Opcode51.TheVariants.{Move, LoadK, LoadBool, LoadNil, GetUpval, GetGlobal, GetTable, SetGlobal, SetUpval, SetTable, NewTable, SelfOp, Add, Sub, Mul, Div, Mod, Pow, Unm, Not, Len, Concat, Jmp, Eq, Lt, Le, Test, TestSet, Call, TailCall, Return, ForLoop, ForPrep, TForLoop, SetList, Close, Closure, VarArg}
 use Rattle.opcodes.specs.declared.OpcodeField.{OpcodeField}

@@ -5,8 +5,6 @@ ghost use Rattle.std.specs.Prelude.{◌≡◌, Option, Some};
 ghost use Rattle.opcodes.specs.Names.{mode_name, opcode_name};
 ghost use Rattle.opcodes.specs.Words.{a_is_register, constant_index, decoded, field_of, is_constant, is_fixed_register, is_rk, mode_of, opcode_number, opcode_of, operand_in};
 
-pub mod bytes;
-
 use std::fmt;
 
 // The bit that makes an RK operand a constant.

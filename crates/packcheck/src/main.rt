@@ -1,7 +1,7 @@
 // The program packcheck: a listing on standard input, diagnostics and verdict on standard output.
 #![tactic(auto)]
 
-use check_listing::run::run;
+use listing::run::run;
 use std::io::writer;
 
 fn main(rt: HostRuntime) {

@@ -1,7 +1,7 @@
 // Stored listings, by the names of their files as arguments: each name, and what packcheck writes for that input.
 #![tactic(auto)]
 
-use check_listing::run::run;
+use listing::run::run;
 use std::fs::File;
 use std::io::writer;
 use std::{env, io};

@@ -4,20 +4,20 @@ use mathlib.Core.Path.{subst⁻¹}
 use mathlib.Core.List.{foldl}
 use mathlib.Core.Option.{Option, none, some}
 use lib.ListN.{length-replicate}
-use Rattle.opcodes.specs.Lists.{All, all_nil, all_cons}
-use Rattle.opcodes.specs.Bytes.{overwrite}
-use Rattle.chunk.specs.Table.{Row, row_bytes, field_at, row_at, rows, Proto, proto_of, child_of_row, proto_in}
-use Rattle.chunk.specs.Bindings.{Binding, unbound, Write, writes, first_binding, binding_total, set_binding, bind_rows, bindings, binding_bytes, binding_records}
-use Rattle.chunk.specs.Refusals.{roles_refusal, word_total}
+use Rattle.base.specs.Lists.{All, all_nil, all_cons}
+use Rattle.base.specs.Bytes.{overwrite}
+use Rattle.roles_spec.specs.Table.{Row, row_bytes, field_at, row_at, rows, Proto, proto_of, child_of_row, proto_in}
+use Rattle.roles_spec.specs.Bindings.{Binding, unbound, Write, writes, first_binding, binding_total, set_binding, bind_rows, bindings, binding_bytes, binding_records}
+use Rattle.roles_spec.specs.Refusals.{roles_refusal, word_total}
 use Rattle.roles.specs.BindingSteps.{max_bindings, RoomForAllOrNone, BindsFrom, stored, bound_in, bound_row, bound_rows}
-use Rattle.opcodes.proofs.ListLaws.{foldl_next}
-use Rattle.opcodes.proofs.AllLaws.{all_imp}
-use Rattle.chunk.proofs.TableLaws.{drop_rows}
-use Rattle.chunk.proofs.TotalLaws.{words_next, records_next, records_most}
-use Rattle.chunk.proofs.RowCheckLaws.{rows_end}
-use Rattle.chunk.proofs.RefusalLaws.{roles_kept}
-use Rattle.chunk.proofs.BindingRecordLaws.{record_set}
-use Rattle.chunk.proofs.WriteLaws.{length_set_binding, length_writes, Inside, writes_inside}
+use Rattle.base.proofs.ListLaws.{foldl_next}
+use Rattle.base.proofs.AllLaws.{all_imp}
+use Rattle.roles_spec.proofs.TableLaws.{drop_rows}
+use Rattle.roles_spec.proofs.TotalLaws.{words_next, records_next, records_most}
+use Rattle.roles_spec.proofs.RowCheckLaws.{rows_end}
+use Rattle.roles_spec.proofs.RefusalLaws.{roles_kept}
+use Rattle.roles_spec.proofs.BindingRecordLaws.{record_set}
+use Rattle.roles_spec.proofs.BindingWriteLaws.{length_set_binding, length_writes, Inside, writes_inside}
 use Rattle.roles.proofs.BindingPassLaws.{child_records, length_bound_in}
 
 -- ---- in a buffer and in the list of bindings

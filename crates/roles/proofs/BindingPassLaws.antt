@@ -2,23 +2,23 @@
 use Rattle.std.proofs.Common.{◌≡◌, ℕ, suc, ◌+◌, ◌-◌, ◌*◌, ◌/◌, ◌≤◌, min, Bool, true, false, ◌⊎◌, List, [], ◌∷◌, ◌++◌, length, get_or, take, drop, sym, refl, ap, ◌∙◌, subst, ap₂, inl, inr, arith, length-take}
 use mathlib.Core.List.{flat_map, foldl-append, foldl-map}
 use mathlib.Core.Option.{Option, none, some}
-use Rattle.opcodes.specs.Lists.{up_from, tabulate}
-use Rattle.opcodes.specs.Bytes.{u32s}
+use Rattle.base.specs.Lists.{up_from, tabulate}
+use Rattle.base.specs.Bytes.{u32s}
 use Rattle.opcodes.specs.Words.{is, field_bx, CLOSURE}
-use Rattle.chunk.specs.Table.{Row, row_bytes, row_at, rows, Proto, proto_of, child_of_row, proto_in}
-use Rattle.chunk.specs.Roles.{Role, ClosureBinding, has_extra, word_at, executable_at, binding_count, existing, binding_words}
-use Rattle.chunk.specs.Bindings.{Write, binding_of, write_of, writes_at, writes, first_binding, binding_total, binding_bytes}
+use Rattle.roles_spec.specs.Table.{Row, row_bytes, row_at, rows, Proto, proto_of, child_of_row, proto_in}
+use Rattle.roles_spec.specs.Roles.{Role, ClosureBinding, has_extra, word_at, executable_at, binding_count, existing, binding_words}
+use Rattle.roles_spec.specs.Bindings.{Write, binding_of, write_of, writes_at, writes, first_binding, binding_total, binding_bytes}
 use Rattle.roles.specs.Terms.{records_between, records_before, owned_bindings, child_bindings, companions_of}
 use Rattle.roles.specs.BindingSteps.{bound_by, bound_from, bound_claim, BindsFrom, Bindable, stored, bound_in}
 use Rattle.roles.specs.declared.discovery.Companions.{Companions}
 use Rattle.roles.specs.declared.discovery.Companions.TheVariants.{None, Extra}
-use Rattle.opcodes.proofs.ListLaws.{foldl_flat_map, foldl_same, length_tabulate}
-use Rattle.opcodes.proofs.TestLaws.{t_true}
-use Rattle.opcodes.proofs.ByteLaws.{length_u32s, length_overwrite}
-use Rattle.chunk.proofs.TableLaws.{child_upvalues}
-use Rattle.chunk.proofs.TotalLaws.{records_front, records_next}
-use Rattle.chunk.proofs.ChildLaws.{found, no_upvalues}
-use Rattle.chunk.proofs.WriteLaws.{writes_next}
+use Rattle.base.proofs.ListLaws.{foldl_flat_map, foldl_same, length_tabulate}
+use Rattle.base.proofs.TestLaws.{t_true}
+use Rattle.base.proofs.ByteLaws.{length_u32s, length_overwrite}
+use Rattle.roles_spec.proofs.TableLaws.{child_upvalues}
+use Rattle.roles_spec.proofs.TotalLaws.{records_front, records_next}
+use Rattle.roles_spec.proofs.ChildLaws.{found, no_upvalues}
+use Rattle.roles_spec.proofs.BindingWriteLaws.{writes_next}
 use Rattle.roles.proofs.CountLaws.{between_first}
 use Rattle.roles.proofs.MarkLaws.{owned_roles, existing_roles}
 use Rattle.roles.proofs.BindingStepLaws.{owned_bound, owned_bindable}

@@ -1,19 +1,19 @@
 -- The records of bindings that binding words set in a buffer: one, several, and those of an owner. Assumes nothing.
 use Rattle.std.proofs.Common.{◌≡◌, ℕ, zero, suc, ◌+◌, ◌*◌, ◌%◌, ◌<◌, ◌≤◌, List, [], ◌∷◌, ◌++◌, length, get_or, take, drop, sym, refl, ap, ◌∙◌, subst, ap₂, zero-add, add-one, arith, length-drop, length-take-le}
 use mathlib.Core.List.{foldl}
-use Rattle.opcodes.specs.Lists.{only}
-use Rattle.opcodes.specs.Bytes.{i32_bits, u32_record, overwrite}
+use Rattle.base.specs.Lists.{only}
+use Rattle.base.specs.Bytes.{i32_bits, u32_record, overwrite}
 use Rattle.opcodes.specs.Words.{decoded, MOVE, GETUPVAL}
 use Rattle.opcodes.specs.declared.RawInstruction51.{RawInstruction51}
-use Rattle.chunk.specs.Bindings.{Binding, binding_index, binding_of, binding_bytes, binding_records}
+use Rattle.roles_spec.specs.Bindings.{Binding, binding_index, binding_of, binding_bytes, binding_records}
 use Rattle.roles.specs.Terms.{owned_bindings}
 use Rattle.roles.specs.BindingSteps.{set_record, bound_by, bound_from, bound_claim, Bindable}
 use Rattle.roles.specs.declared.discovery.Companions.{Companions}
 use Rattle.roles.specs.declared.discovery.Companions.TheVariants.{None, Bindings, Extra}
-use Rattle.opcodes.proofs.ListLaws.{foldl_next}
-use Rattle.opcodes.proofs.ByteLaws.{length_overwrite, overwrite_unfit}
-use Rattle.opcodes.proofs.PartLaws.{paste_part, by_part}
-use Rattle.chunk.proofs.BindingRecordLaws.{one_binding, length_bindings}
+use Rattle.base.proofs.ListLaws.{foldl_next}
+use Rattle.base.proofs.ByteLaws.{length_overwrite, overwrite_unfit}
+use Rattle.base.proofs.PartLaws.{paste_part, by_part}
+use Rattle.roles_spec.proofs.BindingRecordLaws.{one_binding, length_bindings}
 use Rattle.opcodes.proofs.SplitLaws.{has_opcode, has_other}
 
 -- ---- a binding word

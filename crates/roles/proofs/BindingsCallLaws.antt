@@ -2,19 +2,19 @@
 use Rattle.std.proofs.Common.{◌≡◌, ℕ, ◌*◌, ◌/◌, ◌<◌, ◌≤◌, List, [], ◌∷◌, length, drop, replicate, sym, refl, ap, ◌∙◌, arith, le-ltb, lt-ltb}
 use mathlib.Core.Option.{Option, none}
 use lib.ListN.{length-replicate}
-use Rattle.opcodes.specs.Bytes.{u32s, overwrite}
-use Rattle.chunk.specs.Table.{Row, row_bytes, rows, proto_of, child_at}
-use Rattle.chunk.specs.Bindings.{Binding, unbound, writes, binding_total, bind_rows, bindings, binding_bytes, binding_records}
-use Rattle.chunk.specs.Refusals.{Refused, refuse, refuse_if, or_else, roles_refusal, too_short}
-use Rattle.chunk.specs.Calls.{answer, filled, roles_after, image_bindings, bindings_refusal, bindings_answer, bindings_after}
+use Rattle.base.specs.Bytes.{u32s, overwrite}
+use Rattle.roles_spec.specs.Table.{Row, row_bytes, rows, proto_of, child_at}
+use Rattle.roles_spec.specs.Bindings.{Binding, unbound, writes, binding_total, bind_rows, bindings, binding_bytes, binding_records}
+use Rattle.roles_spec.specs.Refusals.{Refused, refuse, refuse_if, or_else, roles_refusal, too_short}
+use Rattle.roles_spec.specs.Calls.{answer, filled, roles_after, image_bindings, bindings_refusal, bindings_answer, bindings_after}
 use Rattle.roles.specs.Terms.{refused_of, given_refusal, answer_of, field_total}
 use Rattle.roles.specs.BindingSteps.{max_bindings, bound_rows}
 use Rattle.roles.specs.declared.refusals.Refusal.{Refusal}
 use Rattle.roles.specs.declared.refusals.Refusal.TheVariants as refusal
 use Rattle.std.specs.declared.result.Result.{Result}
 use Rattle.std.specs.declared.result.Result.TheVariants.{Ok, Err}
-use Rattle.chunk.proofs.UntouchedLaws.{refused_leaves, bindings_untouched}
-use Rattle.chunk.proofs.WriteLaws.{length_writes}
+use Rattle.roles_spec.proofs.RefusedCallLaws.{refused_leaves, bindings_untouched}
+use Rattle.roles_spec.proofs.BindingWriteLaws.{length_writes}
 use Rattle.roles.proofs.CountLaws.{record_fields}
 use Rattle.roles.proofs.RolesCallLaws.{refused_by, not_refused, refused_call as refused-roles}
 use Rattle.roles.proofs.BindingFillLaws.{few_records, rows_bound}

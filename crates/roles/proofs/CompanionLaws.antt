@@ -2,7 +2,7 @@
 use Rattle.std.proofs.Common.{◌≡◌, ℕ, cond, eqb, List, ap, ◌∙◌}
 use Rattle.opcodes.specs.Words.{decoded, CLOSURE, SETLIST}
 use Rattle.opcodes.specs.declared.RawInstruction51.{RawInstruction51}
-use Rattle.chunk.specs.Roles.{has_extra}
+use Rattle.roles_spec.specs.Roles.{has_extra}
 use Rattle.opcodes.proofs.SplitLaws.{has_opcode, has_other}
 use Rattle.roles.specs.Terms.{child_bindings, companions_of}
 use Rattle.roles.specs.declared.discovery.Companions.TheVariants.{None, Extra}

@@ -1,13 +1,13 @@
 -- Sums as the code counts them: a field of all rows, and the binding records of the rows between two. Assumes nothing.
 use Rattle.std.proofs.Common.{◌≡◌, ℕ, zero, suc, ◌+◌, ◌-◌, ◌*◌, ◌/◌, ◌%◌, ◌^◌, ◌<◌, ◌≤◌, List, [], ◌∷◌, map, length, take, drop, sym, refl, ap, ◌∙◌, ap₂, arith, drop-drop, take-add}
-use Rattle.opcodes.specs.Lists.{up_from, tabulate, total}
-use Rattle.chunk.specs.Table.{Row, row_bytes, field_at, row_at, rows}
-use Rattle.chunk.specs.Refusals.{word_total}
-use Rattle.chunk.specs.Bindings.{binding_total, first_binding}
+use Rattle.base.specs.Lists.{up_from, tabulate, total}
+use Rattle.roles_spec.specs.Table.{Row, row_bytes, field_at, row_at, rows}
+use Rattle.roles_spec.specs.Refusals.{word_total}
+use Rattle.roles_spec.specs.Bindings.{binding_total, first_binding}
 use Rattle.roles.specs.Terms.{field_total, records_between}
-use Rattle.opcodes.proofs.ListLaws.{tabulate_next}
-use Rattle.chunk.proofs.TableLaws.{drop_rows}
-use Rattle.chunk.proofs.TotalLaws.{total_append, sum_append}
+use Rattle.base.proofs.ListLaws.{tabulate_next}
+use Rattle.roles_spec.proofs.TableLaws.{drop_rows}
+use Rattle.roles_spec.proofs.TotalLaws.{total_append, sum_append}
 
 -- ---- a field of all rows
 

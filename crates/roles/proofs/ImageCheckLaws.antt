@@ -1,10 +1,10 @@
 -- What the checks of an image and of a role buffer rest on: sums that are counted in the bytes, and the room that the words need. Assumes nothing.
 use Rattle.std.proofs.Common.{◌≡◌, ℕ, ◌*◌, ◌/◌, ◌<◌, ◌≤◌, List, length, sym, arith, le-ltb, lt-ltb}
 use Rattle.std.proofs.Math.Option.{none}
-use Rattle.chunk.specs.Table.{rows}
-use Rattle.chunk.specs.Refusals.{refuse, refuse_if, or_else, word_total, image_refusal, roles_refusal}
-use Rattle.chunk.proofs.TableLaws.{length_rows}
-use Rattle.chunk.proofs.RefusalLaws.{image_kept}
+use Rattle.roles_spec.specs.Table.{rows}
+use Rattle.roles_spec.specs.Refusals.{refuse, refuse_if, or_else, word_total, image_refusal, roles_refusal}
+use Rattle.roles_spec.proofs.TableLaws.{length_rows}
+use Rattle.roles_spec.proofs.RefusalLaws.{image_kept}
 use Rattle.roles.proofs.CountLaws.{word_fields}
 
 -- the rows and their words, as the code counts them

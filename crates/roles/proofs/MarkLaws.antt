@@ -2,15 +2,15 @@
 use Rattle.std.proofs.Common.{◌≡◌, ℕ, zero, suc, ◌+◌, ◌-◌, ◌*◌, ◌/◌, ◌<◌, ◌≤◌, min, Bool, true, false, ltb, List, [], ◌∷◌, ◌++◌, length, take, drop, sym, refl, ap, ◌∙◌, ap₂, subst, add-zero, arith, length-drop, length-take, length-take-le, take_all, ltb-false, ltb-true}
 use mathlib.Core.List.{flat_map}
 use lib.Seq.{take-nil}
-use Rattle.opcodes.specs.Lists.{tabulate}
-use Rattle.opcodes.specs.Bytes.{i32_record, u32_record, overwrite}
-use Rattle.chunk.specs.Roles.{Role, Instruction, ClosureBinding, SetlistExtra, role_fields, role_bytes, records_of, owner_field, index_field}
+use Rattle.base.specs.Lists.{tabulate}
+use Rattle.base.specs.Bytes.{i32_record, u32_record, overwrite}
+use Rattle.roles_spec.specs.Roles.{Role, Instruction, ClosureBinding, SetlistExtra, role_fields, role_bytes, records_of, owner_field, index_field}
 use Rattle.roles.specs.Terms.{owned_bindings, claimed_roles}
 use Rattle.roles.specs.declared.discovery.Companions.{Companions}
 use Rattle.roles.specs.declared.discovery.Companions.TheVariants.{None, Bindings, Extra}
-use Rattle.opcodes.proofs.ListLaws.{length_tabulate, take_tabulate}
-use Rattle.opcodes.proofs.PartLaws.{paste}
-use Rattle.chunk.proofs.RoleRecordLaws.{length_records, records_none, records_next}
+use Rattle.base.proofs.ListLaws.{length_tabulate, take_tabulate}
+use Rattle.base.proofs.PartLaws.{paste}
+use Rattle.roles_spec.proofs.RoleRecordLaws.{length_records, records_none, records_next}
 
 -- a role's record has its two fields
 pub one_record : (r : Role) → records_of (r ∷ []) ≡ u32_record (owner_field r ∷ index_field r ∷ [])

@@ -2,20 +2,20 @@
 use Rattle.std.proofs.Common.{◌≡◌, ℕ, suc, ◌+◌, ◌-◌, ◌*◌, ◌/◌, ◌<◌, ◌≤◌, List, [], ◌∷◌, ◌++◌, length, take, drop, sym, refl, ap, ◌∙◌, ap₂, append-nil, add-zero, add-one, arith, length-take, take_all}
 use mathlib.Core.List.{flat_map}
 use mathlib.Core.Option.{Option, none}
-use Rattle.opcodes.specs.Bytes.{u32s, overwrite}
-use Rattle.chunk.specs.Table.{Row, row_bytes, field_at, row_at, rows, Proto, proto_of, protos_of, protos, proto_in}
-use Rattle.chunk.specs.Roles.{Role, roles, role_bytes, records_of}
-use Rattle.chunk.specs.Refusals.{Refused, word_total, roles_refusal}
-use Rattle.chunk.specs.Calls.{filled, roles_after}
-use Rattle.opcodes.proofs.ListLaws.{flat_map_append}
-use Rattle.opcodes.proofs.ByteLaws.{length_u32s, length_overwrite}
-use Rattle.opcodes.proofs.PartLaws.{paste}
-use Rattle.chunk.proofs.TableLaws.{length_rows, drop_rows, length_protos_of}
-use Rattle.chunk.proofs.TotalLaws.{words_front, words_next, protos_drop}
-use Rattle.chunk.proofs.RefusalLaws.{ImageKept, roles_kept}
-use Rattle.chunk.proofs.RoleBufferLaws.{length_roles, words_before, words_before_lem}
-use Rattle.chunk.proofs.RowPartLaws.{part, part_proto}
-use Rattle.chunk.proofs.RoleRecordLaws.{length_records, records_none, records_next}
+use Rattle.base.specs.Bytes.{u32s, overwrite}
+use Rattle.roles_spec.specs.Table.{Row, row_bytes, field_at, row_at, rows, Proto, proto_of, protos_of, protos, proto_in}
+use Rattle.roles_spec.specs.Roles.{Role, roles, role_bytes, records_of}
+use Rattle.roles_spec.specs.Refusals.{Refused, word_total, roles_refusal}
+use Rattle.roles_spec.specs.Calls.{filled, roles_after}
+use Rattle.base.proofs.ListLaws.{flat_map_append}
+use Rattle.base.proofs.ByteLaws.{length_u32s, length_overwrite}
+use Rattle.base.proofs.PartLaws.{paste}
+use Rattle.roles_spec.proofs.TableLaws.{length_rows, drop_rows, length_protos_of}
+use Rattle.roles_spec.proofs.TotalLaws.{words_front, words_next, protos_drop}
+use Rattle.roles_spec.proofs.RefusalLaws.{ImageKept, roles_kept}
+use Rattle.roles_spec.proofs.RoleBufferLaws.{length_roles, words_before, words_before_lem}
+use Rattle.roles_spec.proofs.RowPartLaws.{part, part_proto}
+use Rattle.roles_spec.proofs.RoleRecordLaws.{length_records, records_none, records_next}
 use Rattle.roles.proofs.RolePassLaws.{take_front}
 
 -- a prototype has no more roles than its row states words

@@ -1,17 +1,17 @@
 -- The pass over a prototype's words: what it has written, and what is left, after each executable word and its companions. Assumes nothing.
 use Rattle.std.proofs.Common.{◌≡◌, ℕ, suc, ◌+◌, ◌-◌, ◌*◌, ◌/◌, ◌<◌, ◌≤◌, Bool, true, false, T, List, [], ◌∷◌, ◌++◌, length, get_or, take, drop, sym, refl, ap, ◌∙◌, ap₂, append-nil, add-zero, arith, length-drop, length-take, length-take-le, get_or-drop, take_all, drop-cons, drop-drop, take_at, take-add, drop_at}
 use mathlib.Core.Path.{subst⁻¹}
-use Rattle.opcodes.specs.Lists.{only}
-use Rattle.opcodes.specs.Bytes.{u32_at, u32s, overwrite}
+use Rattle.base.specs.Lists.{only}
+use Rattle.base.specs.Bytes.{u32_at, u32s, overwrite}
 use Rattle.opcodes.specs.Words.{is, CLOSURE}
-use Rattle.chunk.specs.Table.{row_at, Proto, proto_of, proto_in}
-use Rattle.chunk.specs.Roles.{Role, Instruction, binding_count, has_extra, claims, roles_from, roles, role_at, word_at, Executable, existing, companions, role_bytes, records_of}
+use Rattle.roles_spec.specs.Table.{row_at, Proto, proto_of, proto_in}
+use Rattle.roles_spec.specs.Roles.{Role, Instruction, binding_count, has_extra, claims, roles_from, roles, role_at, word_at, Executable, existing, companions, role_bytes, records_of}
 use Rattle.roles.specs.Terms.{child_bindings, companions_of, claimed_roles}
 use Rattle.roles.specs.declared.discovery.Companions.{Companions}
-use Rattle.opcodes.proofs.ByteLaws.{length_u32s, get_d_u32s, length_overwrite}
-use Rattle.chunk.proofs.RoleLaws.{role_executable, executable, owned_count, past_claims, no_both}
-use Rattle.chunk.proofs.RoleBufferLaws.{length_roles}
-use Rattle.chunk.proofs.RoleRecordLaws.{records_none, records_next}
+use Rattle.base.proofs.ByteLaws.{length_u32s, get_d_u32s, length_overwrite}
+use Rattle.roles_spec.proofs.RoleLaws.{role_executable, executable, owned_count, past_claims, no_both}
+use Rattle.roles_spec.proofs.RoleBufferLaws.{length_roles}
+use Rattle.roles_spec.proofs.RoleRecordLaws.{records_none, records_next}
 use Rattle.roles.proofs.MarkLaws.{owned_roles, Marked, existing_roles, marked_part, owner_marked}
 
 -- ---- a list from index k on, by its front

@@ -1,16 +1,16 @@
 -- The roles call, once its refusals are judged. Assumes nothing.
 use Rattle.std.proofs.Common.{◌≡◌, ℕ, ◌/◌, ◌≤◌, List, length, sym, ap, ◌∙◌, arith}
 use mathlib.Core.Option.{Option, none, some}
-use Rattle.chunk.specs.Table.{row_bytes, rows}
-use Rattle.chunk.specs.Refusals.{Refused, max_rows, word_total, roles_refusal}
-use Rattle.chunk.specs.Calls.{answer, roles_answer, roles_after}
+use Rattle.roles_spec.specs.Table.{row_bytes, rows}
+use Rattle.roles_spec.specs.Refusals.{Refused, max_rows, word_total, roles_refusal}
+use Rattle.roles_spec.specs.Calls.{answer, roles_answer, roles_after}
 use Rattle.roles.specs.Terms.{refused_of, given_refusal, answer_of}
 use Rattle.roles.specs.declared.refusals.Refusal.{Refusal}
 use Rattle.std.specs.declared.result.Result.{Result}
 use Rattle.std.specs.declared.result.Result.TheVariants.{Ok, Err}
-use Rattle.chunk.proofs.TableLaws.{length_rows}
-use Rattle.chunk.proofs.RefusalLaws.{ImageKept, roles_kept}
-use Rattle.chunk.proofs.UntouchedLaws.{roles_untouched}
+use Rattle.roles_spec.proofs.TableLaws.{length_rows}
+use Rattle.roles_spec.proofs.RefusalLaws.{ImageKept, roles_kept}
+use Rattle.roles_spec.proofs.RefusedCallLaws.{roles_untouched}
 
 module _ {A : Type 0} (table words roleBuffer : List ℕ) (a : Result A Refusal) (judged : given_refusal a ≡ roles_refusal table words (length roleBuffer)) where
   pub refused_by : (r : Refusal) → a ≡ Err r → some (refused_of r) ≡ roles_refusal table words (length roleBuffer)

@@ -4,13 +4,13 @@ use mathlib.Core.Option.{Option, none, some}
 use borrow.Author.Tests.{eqb-false}
 use Rattle.std.specs.declared.option.Option.{Option as Maybe}
 use Rattle.std.specs.declared.option.Option.TheVariants as maybe
-use Rattle.chunk.specs.Table.{Row, row_bytes, field_at, row_at, rows, children, child_at, child_of_row, proto_in}
+use Rattle.roles_spec.specs.Table.{Row, row_bytes, field_at, row_at, rows, children, child_at, child_of_row, proto_in}
 use Rattle.roles.specs.Terms.{records_between, child_from, found_at, in_index, RoomForChildren, Tracks, records_before, owned_bindings, child_bindings}
 use Rattle.roles.specs.declared.table.Child.{Child}
 use Rattle.roles.specs.declared.search.Entry.{Entry}
 use Rattle.roles.specs.declared.discovery.Companions.TheVariants.{None}
-use Rattle.chunk.proofs.TableLaws.{element_missing}
-use Rattle.chunk.proofs.ChildLaws.{element_past_end, too_few, row_end, row_found, row_next, row_deeper, found, child_in, no_upvalues}
+use Rattle.roles_spec.proofs.TableLaws.{element_missing}
+use Rattle.roles_spec.proofs.ChildLaws.{element_past_end, too_few, row_end, row_found, row_next, row_deeper, found, child_in, no_upvalues}
 use Rattle.roles.proofs.CountLaws.{none_between, between_join, between_one, wrapped}
 
 -- ---- a child as the code has it, with the place of its first binding record

@@ -3,11 +3,11 @@
 use Rattle.std.specs.Prelude.{◌≡◌, ℕ, suc, ◌+◌, ◌*◌, ◌≤◌, List, [], ◌∷◌, take, drop, slice_index}
 use mathlib.Core.List.{foldl}
 use Rattle.std.proofs.Math.Option.{Option, none, some}
-use Rattle.opcodes.specs.Lists.{up_from}
-use Rattle.opcodes.specs.Bytes.{overwrite}
-use Rattle.chunk.specs.Table.{Row, rows, child_of_row, proto_in}
-use Rattle.chunk.specs.Bindings.{Binding, Write, binding_of, writes, first_binding, binding_total, binding_bytes, binding_records}
-use Rattle.chunk.specs.Refusals.{max_rows, max_upvalues, word_total}
+use Rattle.base.specs.Lists.{up_from}
+use Rattle.base.specs.Bytes.{overwrite}
+use Rattle.roles_spec.specs.Table.{Row, rows, child_of_row, proto_in}
+use Rattle.roles_spec.specs.Bindings.{Binding, Write, binding_of, writes, first_binding, binding_total, binding_bytes, binding_records}
+use Rattle.roles_spec.specs.Refusals.{max_rows, max_upvalues, word_total}
 use Rattle.roles.specs.declared.discovery.Companions.{Companions}
 use Rattle.roles.specs.declared.discovery.Companions.TheVariants.{None, Bindings, Extra}
 

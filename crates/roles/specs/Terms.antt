@@ -5,13 +5,13 @@ use Rattle.std.specs.declared.option.Option.{Option as Maybe}
 use Rattle.std.specs.declared.option.Option.TheVariants as maybe
 use Rattle.std.specs.declared.result.Result.{Result}
 use Rattle.std.specs.declared.result.Result.TheVariants.{Ok, Err}
-use Rattle.opcodes.specs.Lists.{tabulate, total}
+use Rattle.base.specs.Lists.{tabulate, total}
 use Rattle.opcodes.specs.Words.{is, field_bx, CLOSURE}
-use Rattle.chunk.specs.Table.{Row, row_bytes, field_at, row_at, rows, child_at, child_of_row, proto_in}
-use Rattle.chunk.specs.Roles.{Role, Instruction, ClosureBinding, SetlistExtra, has_extra}
-use Rattle.chunk.specs.Bindings.{binding_total}
-use Rattle.chunk.specs.Refusals.{Refused}
-use Rattle.chunk.specs.Calls.{Answer, refused, accepted}
+use Rattle.roles_spec.specs.Table.{Row, row_bytes, field_at, row_at, rows, child_at, child_of_row, proto_in}
+use Rattle.roles_spec.specs.Roles.{Role, Instruction, ClosureBinding, SetlistExtra, has_extra}
+use Rattle.roles_spec.specs.Bindings.{binding_total}
+use Rattle.roles_spec.specs.Refusals.{Refused}
+use Rattle.roles_spec.specs.Calls.{Answer, refused, accepted}
 use Rattle.roles.specs.declared.refusals.Refusal.{Refusal}
 use Rattle.roles.specs.declared.refusals.Refusal.TheVariants as refusal
 use Rattle.roles.specs.declared.table.Child.{Child}

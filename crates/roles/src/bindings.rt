@@ -1,20 +1,20 @@
 // Upvalue bindings, after the end of luad's `load_proto_51`. A record is three i32: instack, index and the pc of the word that binds.
 ghost use Rattle.std.specs.Prelude.{◌≡◌, ◌+◌, ◌*◌, ◌/◌, ◌%◌, ◌<◌, ◌≤◌, [], ◌∷◌, length, replicate};
 ghost use Rattle.std.specs.Int.{from_bool};
-ghost use Rattle.opcodes.specs.Bytes.{overwrite, u32_record, u32s};
-ghost use Rattle.chunk.specs.Bindings.{binding_bytes, binding_records, unbound};
-ghost use Rattle.chunk.specs.Refusals.{max_word_bytes};
+ghost use Rattle.base.specs.Bytes.{overwrite, u32_record, u32s};
+ghost use Rattle.roles_spec.specs.Bindings.{binding_bytes, binding_records, unbound};
+ghost use Rattle.roles_spec.specs.Refusals.{max_word_bytes};
 ghost use Rattle.roles.specs.BindingSteps.{Bindable, bound_by, bound_claim, bound_from, max_bindings};
 
 use crate::discovery::{Companions, word_at};
-use opcodes::bytes::{MINUS_ONE, write_record};
+use base::bytes::{MINUS_ONE, write_record};
 use opcodes::{Opcode51, RawInstruction51};
 
 // The length of a record in bytes.
 pub const BINDING_BYTES: usize = 12;
 
 // Writes the record of an upvalue that nothing binds, so many times. (By number, as binding words write theirs: one function for both.)
-#[tactic(auto, using(chunk::proofs::BindingRecordLaws::unbound_none, chunk::proofs::BindingRecordLaws::unbound_next))]
+#[tactic(auto, using(roles_spec::proofs::BindingRecordLaws::unbound_none, roles_spec::proofs::BindingRecordLaws::unbound_next))]
 pub fn unbind(bindings: &mut [u8], count: usize)
     requires { binding_bytes * count ≤ length bindings.old }
     ensures { bindings.new ≡ overwrite bindings.old 0 (binding_records (replicate count unbound)) }
@@ -60,7 +60,7 @@ fn bind_child(bindings: &mut [u8], first: usize, upvalues: usize, words: &Compan
 }
 
 // The words each set a record, in order.
-#[tactic(auto, using(opcodes::proofs::ByteLaws::get_d_u32s, crate::proofs::BindingStepLaws::bound_none, crate::proofs::BindingStepLaws::bound_more))]
+#[tactic(auto, using(base::proofs::ByteLaws::get_d_u32s, crate::proofs::BindingStepLaws::bound_none, crate::proofs::BindingStepLaws::bound_more))]
 fn bind_words(records: &mut [u8], words: &CompanionWords)
     requires { binding_bytes * words.now.existing ≤ length records.old }
     ensures { records.new ≡ bound_from (u32s words.now.code.now) (words.now.pc + 1) 0 words.now.existing records.old }

@@ -1,11 +1,11 @@
 // The roles of a prototype's words, front to back, after luad's `discover_roles_lua51`, and on the way the bindings of its children.
 ghost use Rattle.std.specs.Prelude.{◌≡◌, ◌+◌, ◌*◌, ◌/◌, ◌<◌, ◌≤◌, length, min, take, if◌then◌else◌, nat_eq};
-ghost use Rattle.opcodes.specs.Bytes.{overwrite, u32_at, u32s};
-ghost use Rattle.opcodes.specs.Lists.{tabulate};
-ghost use Rattle.chunk.specs.Bindings.{writes};
-ghost use Rattle.chunk.specs.Refusals.{max_rows, max_word_bytes};
-ghost use Rattle.chunk.specs.Roles.{ClosureBinding, records_of, role_bytes, roles};
-ghost use Rattle.chunk.specs.Table.{proto_in, row_at, row_bytes};
+ghost use Rattle.base.specs.Bytes.{overwrite, u32_at, u32s};
+ghost use Rattle.base.specs.Lists.{tabulate};
+ghost use Rattle.roles_spec.specs.Bindings.{writes};
+ghost use Rattle.roles_spec.specs.Refusals.{max_rows, max_word_bytes};
+ghost use Rattle.roles_spec.specs.Roles.{ClosureBinding, records_of, role_bytes, roles};
+ghost use Rattle.roles_spec.specs.Table.{proto_in, row_at, row_bytes};
 ghost use Rattle.roles.specs.BindingSteps.{BindsFrom, bound_in};
 ghost use Rattle.roles.specs.Terms.{RoomForChildren, child_bindings, claimed_roles, companions_of, owned_bindings};
 ghost use Rattle.roles.specs.declared.discovery.Companions.TheVariants.{Extra, None};
@@ -14,7 +14,7 @@ use crate::bindings::{CompanionWords, bind_claim};
 use crate::role::{Lua51PhysicalRole, ROLE_BYTES, write_role};
 use crate::search::Children;
 use crate::table::{Child, Column, Row};
-use opcodes::bytes::read_u32;
+use base::bytes::read_u32;
 use opcodes::{Opcode51, RawInstruction51};
 
 // The words that an executable word owns: none, those that bind a child's upvalues, or a SETLIST's extra word. Bindings have their number, and
@@ -38,11 +38,11 @@ pub(crate) fn discover_roles_lua51(
     bindings: &mut [u8],
     base: usize,
 )
-    requires words_stated { (row_at children.old.parent.protos.now children.old.parent.number).words ≡ length code.now / 4 }
+    requires words_stated { (row_at children.old.parent.table.now children.old.parent.number).words ≡ length code.now / 4 }
     requires roles_fit { (length code.now ≤ max_word_bytes) × (2 * length code.now ≤ length out.old) }
-    requires binds_from { BindsFrom children.old.parent.protos.now children.old.parent.number base (length bindings.old) }
-    ensures out_after { out.new ≡ overwrite out.old 0 (records_of (roles (proto_in children.old.parent.protos.now children.old.parent.number (u32s code.now)))) }
-    ensures bindings_after { bindings.new ≡ bound_in children.old.parent.protos.now children.old.parent.number (writes (proto_in children.old.parent.protos.now children.old.parent.number (u32s code.now))) bindings.old }
+    requires binds_from { BindsFrom children.old.parent.table.now children.old.parent.number base (length bindings.old) }
+    ensures out_after { out.new ≡ overwrite out.old 0 (records_of (roles (proto_in children.old.parent.table.now children.old.parent.number (u32s code.now)))) }
+    ensures bindings_after { bindings.new ≡ bound_in children.old.parent.table.now children.old.parent.number (writes (proto_in children.old.parent.table.now children.old.parent.number (u32s code.now))) bindings.old }
     ensures same_parent { children.new.parent ≡ children.old.parent }
 {
     let n = code.len() / 4;
@@ -63,7 +63,7 @@ pub(crate) fn discover_roles_lua51(
 }
 
 // The word at pc. (Of a part of four bytes the compiler drops the test for room.)
-#[tactic(auto, using(opcodes::proofs::PartLaws::u32_at_part))]
+#[tactic(auto, using(base::proofs::PartLaws::u32_at_part))]
 pub(crate) fn word_at(code: &[u8], pc: usize) -> u32
     requires { 4 * pc + 4 ≤ length code.now }
     ensures { result ≡ u32_at code.now (4 * pc) }
@@ -75,7 +75,7 @@ pub(crate) fn word_at(code: &[u8], pc: usize) -> u32
 // on words of any bits takes 6.8 ms and not 2.7 (220,000 mispredicted branches and not 70,000 in two calls by cachegrind; minima of 60 turns).
 #[tactic(auto, using(crate::proofs::CompanionLaws::owns_bindings, crate::proofs::CompanionLaws::owns_extra, crate::proofs::CompanionLaws::owns_nothing))]
 fn claim_of(children: &mut Children, word: u32) -> Companions
-    ensures owned { result ≡ companions_of children.old.parent.protos.now children.old.parent.number word }
+    ensures owned { result ≡ companions_of children.old.parent.table.now children.old.parent.number word }
     ensures same_parent { children.new.parent ≡ children.old.parent }
 {
     let w = RawInstruction51::decode(word);
@@ -90,14 +90,14 @@ fn claim_of(children: &mut Children, word: u32) -> Companions
 
 // A CLOSURE that names child k owns a word for each of its upvalues, where there is such a child.
 fn claim_child(children: &mut Children, k: u32) -> Companions
-    ensures owned { result ≡ child_bindings children.old.parent.protos.now children.old.parent.number k }
+    ensures owned { result ≡ child_bindings children.old.parent.table.now children.old.parent.number k }
     ensures same_parent { children.new.parent ≡ children.old.parent }
 {
-    let protos = children.parent.protos;
+    let table = children.parent.table;
     match children.find(k) {
         None => Companions::None,
         Some(Child { first, row: number }) => {
-            binding_words(Row { protos, number }.field(Column::Upvalues), first)
+            binding_words(Row { table, number }.field(Column::Upvalues), first)
         }
     }
 }

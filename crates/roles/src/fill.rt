@@ -1,13 +1,13 @@
 // The filling of the buffers, once no refusal applies.
 ghost use Rattle.std.specs.Prelude.{◌/◌, ◌≤◌, length};
-ghost use Rattle.chunk.specs.Refusals.{max_rows};
-ghost use Rattle.chunk.specs.Table.{row_bytes};
+ghost use Rattle.roles_spec.specs.Refusals.{max_rows};
+ghost use Rattle.roles_spec.specs.Table.{row_bytes};
 ghost use Rattle.roles.specs.Fills.{Fills};
 ghost use Rattle.roles.specs.Terms.{RoomForChildren};
 
 use crate::discovery::discover_roles_lua51;
 use crate::filling::Filling;
-use crate::refusals::MAX_PROTOS;
+use crate::refusals::MAX_ROWS;
 use crate::role::ROLE_BYTES;
 use crate::search::{Children, Entry};
 use crate::table::{Column, FEW_ROWS, ROW_BYTES, Row};
@@ -18,16 +18,16 @@ impl<'a> Filling<'a> {
     pub(crate) fn fill(&mut self)
         ensures { Fills self.old self.new }
     {
-        if self.protos.len() / ROW_BYTES <= FEW_ROWS {
+        if self.table.len() / ROW_BYTES <= FEW_ROWS {
             self.fill_within::<FEW_ROWS>();
         } else {
-            self.fill_within::<MAX_PROTOS>();
+            self.fill_within::<MAX_ROWS>();
         }
     }
 
     // The same with an index of N children.
     fn fill_within<const N: usize>(&mut self)
-        requires room_for_children { (length self.old.protos.now / row_bytes ≤ N) × (N ≤ max_rows) }
+        requires room_for_children { (length self.old.table.now / row_bytes ≤ N) × (N ≤ max_rows) }
         ensures { Fills self.old self.new }
     {
         let mut index = [Entry { row: 0, first: 0 }; N];
@@ -38,15 +38,15 @@ impl<'a> Filling<'a> {
     // The binding records of the rows after it begin at index `base`.
     #[tactic(auto, using(crate::proofs::RoleFillLaws::words_there))]
     fn fill_indexed(&mut self, index: &mut [Entry])
-        requires room_for_children { RoomForChildren self.old.protos.now index.old }
+        requires room_for_children { RoomForChildren self.old.table.now index.old }
         ensures { Fills self.old self.new }
     {
-        let protos = self.protos;
+        let table = self.table;
         let words = self.words;
         let mut first = 0;
         let mut base = 0;
-        for number in 0..protos.len() / ROW_BYTES {
-            let row = Row { protos, number };
+        for number in 0..table.len() / ROW_BYTES {
+            let row = Row { table, number };
             let next = first + row.field(Column::Words) as usize;
             base += row.field(Column::Upvalues) as usize;
             let mut children = Children::new(row, index);

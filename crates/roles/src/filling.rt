@@ -1,7 +1,7 @@
 // What is filled, and from what.
 ghost use Rattle.std.specs.Prelude.{◌≡◌, length};
 ghost use Rattle.std.proofs.Math.Option.{none};
-ghost use Rattle.chunk.specs.Refusals.{roles_refusal};
+ghost use Rattle.roles_spec.specs.Refusals.{roles_refusal};
 ghost use Rattle.roles.specs.BindingSteps.{RoomForAllOrNone};
 
 // An accepted image, and the buffers that its roles and its bindings are written to: the latter has room for all records or for none.
@@ -9,8 +9,8 @@ ghost use Rattle.roles.specs.BindingSteps.{RoomForAllOrNone};
 pub(crate) struct Filling<'a> {
     pub roles: &'a mut [u8],
     pub bindings: &'a mut [u8],
-    pub protos: &'a [u8],
+    pub table: &'a [u8],
     pub words: &'a [u8],
-    ghost accepted: { roles_refusal protos.now words.now (length roles.now) ≡ none },
-    ghost room: { RoomForAllOrNone protos.now (length bindings.now) },
+    ghost accepted: { roles_refusal table.now words.now (length roles.now) ≡ none },
+    ghost room: { RoomForAllOrNone table.now (length bindings.now) },
 }

@@ -1,13 +1,13 @@
 // Refusals 1 to 7, the least number first. Nothing is written before they are excluded. Refusal 8 is for the calls to give.
 ghost use Rattle.std.specs.Prelude.{◌≡◌, ◌+◌, ◌*◌, ◌/◌, ◌^◌, ◌<◌, ◌≤◌, ◌||◌, length, nat_lt};
-ghost use Rattle.chunk.specs.Refusals.{bad_depth, bad_field, depth_fits, fields_fit, image_refusal, max_rows, max_word_bytes, roles_refusal};
-ghost use Rattle.chunk.specs.Table.{row_at, row_bytes, rows};
+ghost use Rattle.roles_spec.specs.Refusals.{bad_depth, bad_field, depth_fits, fields_fit, image_refusal, max_rows, max_word_bytes, roles_refusal};
+ghost use Rattle.roles_spec.specs.Table.{row_at, row_bytes, rows};
 ghost use Rattle.roles.specs.Terms.{column_index, field_total, given_refusal, refused_of};
 
 use crate::role::ROLE_BYTES;
 use crate::table::{Column, ROW_BYTES, Row};
 
-pub const MAX_PROTOS: usize = 16384;
+pub const MAX_ROWS: usize = 16384;
 
 pub const MAX_WORD_BYTES: usize = 4194304;
 
@@ -65,11 +65,11 @@ impl Refusal {
 }
 
 // 1 to 7, for a role buffer of so many bytes.
-#[tactic(auto, unfolding(chunk::specs::Refusals::roles_refusal, chunk::specs::Refusals::or_else, crate::specs::Terms::given_refusal))]
-pub fn check_roles(protos: &[u8], words: &[u8], room: usize) -> Result<(), Refusal>
-    ensures { given_refusal result ≡ roles_refusal protos.now words.now room }
+#[tactic(auto, unfolding(roles_spec::specs::Refusals::roles_refusal, roles_spec::specs::Refusals::or_else, crate::specs::Terms::given_refusal))]
+pub fn check_roles(table: &[u8], words: &[u8], room: usize) -> Result<(), Refusal>
+    ensures { given_refusal result ≡ roles_refusal table.now words.now room }
 {
-    check_image(protos, words)?;
+    check_image(table, words)?;
     if room / ROLE_BYTES < words.len() / 4 {
         return Err(Refusal::RoleBufferTooShort);
     }
@@ -77,22 +77,22 @@ pub fn check_roles(protos: &[u8], words: &[u8], room: usize) -> Result<(), Refus
 }
 
 // 1 to 6.
-#[tactic(auto, using(crate::proofs::ImageCheckLaws::image_counts), unfolding(chunk::specs::Refusals::image_refusal, chunk::specs::Refusals::or_else, chunk::specs::Refusals::refuse_if, chunk::specs::Refusals::refuse, crate::specs::Terms::given_refusal, crate::specs::Terms::refused_of))]
-pub fn check_image(protos: &[u8], words: &[u8]) -> Result<(), Refusal>
-    ensures { given_refusal result ≡ image_refusal protos.now words.now }
+#[tactic(auto, using(crate::proofs::ImageCheckLaws::image_counts), unfolding(roles_spec::specs::Refusals::image_refusal, roles_spec::specs::Refusals::or_else, roles_spec::specs::Refusals::refuse_if, roles_spec::specs::Refusals::refuse, crate::specs::Terms::given_refusal, crate::specs::Terms::refused_of))]
+pub fn check_image(table: &[u8], words: &[u8]) -> Result<(), Refusal>
+    ensures { given_refusal result ≡ image_refusal table.now words.now }
 {
-    if protos.len() == 0 {
+    if table.len() == 0 {
         return Err(Refusal::NoProtos);
     }
-    if protos.len() % ROW_BYTES != 0 {
+    if table.len() % ROW_BYTES != 0 {
         return Err(Refusal::PartialRow);
     }
-    if is_too_large(protos.len() / ROW_BYTES, words.len()) {
+    if is_too_large(table.len() / ROW_BYTES, words.len()) {
         return Err(Refusal::TooLarge);
     }
-    check_depths(protos)?;
-    check_fields(protos)?;
-    if words.len() as u64 != 4 * field_total(protos, Column::Words) {
+    check_depths(table)?;
+    check_fields(table)?;
+    if words.len() as u64 != 4 * field_total(table, Column::Words) {
         return Err(Refusal::WordCountMismatch);
     }
     Ok(())
@@ -102,20 +102,20 @@ pub fn check_image(protos: &[u8], words: &[u8]) -> Result<(), Refusal>
 fn is_too_large(rows: usize, bytes: usize) -> bool
     ensures { result ≡ nat_lt max_rows rows || nat_lt max_word_bytes bytes }
 {
-    MAX_PROTOS < rows || MAX_WORD_BYTES < bytes
+    MAX_ROWS < rows || MAX_WORD_BYTES < bytes
 }
 
 // 4: every depth in its bounds. (That the rows are few stands at three functions here, and no type of a table has it: such a type would be only
 // theirs. `Row` and `find_child` serve tables of any length, and the search has the fact as a ghost field.)
-#[tactic(auto, using(chunk::proofs::RowCheckLaws::depths_end, chunk::proofs::RowCheckLaws::depth_refused, chunk::proofs::RowCheckLaws::depth_low, chunk::proofs::RowCheckLaws::depth_next), unfolding(chunk::specs::Refusals::refuse, crate::specs::Terms::refused_of, crate::specs::Terms::given_refusal))]
-fn check_depths(protos: &[u8]) -> Result<(), Refusal>
-    requires { length protos.now / row_bytes ≤ max_rows }
-    ensures { given_refusal result ≡ bad_depth 0 0 (rows protos.now) }
+#[tactic(auto, using(roles_spec::proofs::RowCheckLaws::depths_end, roles_spec::proofs::RowCheckLaws::depth_refused, roles_spec::proofs::RowCheckLaws::depth_low, roles_spec::proofs::RowCheckLaws::depth_next), unfolding(roles_spec::specs::Refusals::refuse, crate::specs::Terms::refused_of, crate::specs::Terms::given_refusal))]
+fn check_depths(table: &[u8]) -> Result<(), Refusal>
+    requires { length table.now / row_bytes ≤ max_rows }
+    ensures { given_refusal result ≡ bad_depth 0 0 (rows table.now) }
 {
     let mut least = 0;
     let mut most = 0;
-    for number in 0..protos.len() / ROW_BYTES {
-        let row = Row { protos, number };
+    for number in 0..table.len() / ROW_BYTES {
+        let row = Row { table, number };
         if !depth_fits(&row, least, most) {
             return Err(Refusal::BadDepth(number as u32));
         }
@@ -126,22 +126,22 @@ fn check_depths(protos: &[u8]) -> Result<(), Refusal>
 }
 
 // A row's depth is from `least` to `most`, and within the limit.
-#[tactic(auto, unfolding(chunk::specs::Refusals::depth_fits, chunk::specs::Table::row_at))]
+#[tactic(auto, unfolding(roles_spec::specs::Refusals::depth_fits, roles_spec::specs::Table::row_at))]
 fn depth_fits(row: &Row, least: u32, most: u32) -> bool
-    ensures { result ≡ depth_fits least most (row_at row.now.protos.now row.now.number) }
+    ensures { result ≡ depth_fits least most (row_at row.now.table.now row.now.number) }
 {
     let depth = row.field(Column::Depth);
     least <= depth && depth <= most && depth <= MAX_DEPTH
 }
 
 // 5: constants, upvalues and stack of every row within their limits.
-#[tactic(auto, using(chunk::proofs::RowCheckLaws::fields_end, chunk::proofs::RowCheckLaws::field_refused, chunk::proofs::RowCheckLaws::field_next), unfolding(chunk::specs::Refusals::refuse, crate::specs::Terms::refused_of, crate::specs::Terms::given_refusal))]
-fn check_fields(protos: &[u8]) -> Result<(), Refusal>
-    requires { length protos.now / row_bytes ≤ max_rows }
-    ensures { given_refusal result ≡ bad_field (rows protos.now) }
+#[tactic(auto, using(roles_spec::proofs::RowCheckLaws::fields_end, roles_spec::proofs::RowCheckLaws::field_refused, roles_spec::proofs::RowCheckLaws::field_next), unfolding(roles_spec::specs::Refusals::refuse, crate::specs::Terms::refused_of, crate::specs::Terms::given_refusal))]
+fn check_fields(table: &[u8]) -> Result<(), Refusal>
+    requires { length table.now / row_bytes ≤ max_rows }
+    ensures { given_refusal result ≡ bad_field (rows table.now) }
 {
-    for number in 0..protos.len() / ROW_BYTES {
-        if !fields_fit(&Row { protos, number }) {
+    for number in 0..table.len() / ROW_BYTES {
+        if !fields_fit(&Row { table, number }) {
             return Err(Refusal::FieldOverLimit(number as u32));
         }
     }
@@ -149,9 +149,9 @@ fn check_fields(protos: &[u8]) -> Result<(), Refusal>
 }
 
 // A row's constants, upvalues and stack are within their limits.
-#[tactic(auto, unfolding(chunk::specs::Refusals::fields_fit, chunk::specs::Table::row_at))]
+#[tactic(auto, unfolding(roles_spec::specs::Refusals::fields_fit, roles_spec::specs::Table::row_at))]
 fn fields_fit(row: &Row) -> bool
-    ensures { result ≡ fields_fit (row_at row.now.protos.now row.now.number) }
+    ensures { result ≡ fields_fit (row_at row.now.table.now row.now.number) }
 {
     row.field(Column::Constants) <= MAX_CONSTANTS
         && row.field(Column::Upvalues) <= MAX_UPVALUES
@@ -160,14 +160,14 @@ fn fields_fit(row: &Row) -> bool
 
 // The sum of a field over the rows. Each is less than 2^32, so that it fits.
 #[tactic(auto, using(crate::proofs::CountLaws::total_ends, crate::proofs::CountLaws::total_next))]
-pub(crate) fn field_total(protos: &[u8], column: Column) -> u64
-    requires { length protos.now / row_bytes ≤ max_rows }
-    ensures value { result ≡ field_total protos.now (column_index column) }
+pub(crate) fn field_total(table: &[u8], column: Column) -> u64
+    requires { length table.now / row_bytes ≤ max_rows }
+    ensures value { result ≡ field_total table.now (column_index column) }
     ensures upper_bound { result ≤ 2 ^ 46 }
 {
     let mut total: u64 = 0;
-    for number in 0..protos.len() / ROW_BYTES {
-        total += Row { protos, number }.field(column) as u64;
+    for number in 0..table.len() / ROW_BYTES {
+        total += Row { table, number }.field(column) as u64;
     }
     total
 }

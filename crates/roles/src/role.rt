@@ -1,10 +1,10 @@
 // The role of a word, and its record in a role buffer: two i32, owner pc and upvalue index, -1 for one that there is not.
 ghost use Rattle.std.specs.Prelude.{◌≡◌, ◌+◌, ◌*◌, ◌≤◌, [], ◌∷◌, length};
-ghost use Rattle.opcodes.specs.Bytes.{overwrite};
-ghost use Rattle.chunk.specs.Roles.{index_field, is_executable, owner_field, records_of, role_bytes, role_in};
+ghost use Rattle.base.specs.Bytes.{overwrite};
+ghost use Rattle.roles_spec.specs.Roles.{index_field, is_executable, owner_field, records_of, role_bytes, role_in};
 ghost use Rattle.roles.specs.Terms.{companion_pc, role_of};
 
-use opcodes::bytes::{MINUS_ONE, read_u32, write_record};
+use base::bytes::{MINUS_ONE, read_u32, write_record};
 
 // The length of a record in bytes.
 pub const ROLE_BYTES: usize = 8;
@@ -37,7 +37,7 @@ impl Lua51PhysicalRole {
     }
 
     // The bits of the owner's pc.
-    #[tactic(auto, unfolding(chunk::specs::Roles::owner_field, chunk::specs::Roles::role_fields, opcodes::specs::Bytes::i32_bits))]
+    #[tactic(auto, unfolding(roles_spec::specs::Roles::owner_field, roles_spec::specs::Roles::role_fields, base::specs::Bytes::i32_bits))]
     fn owner(self) -> u32
         ensures { result ≡ owner_field (role_of self) }
     {
@@ -45,7 +45,7 @@ impl Lua51PhysicalRole {
     }
 
     // The bits of the upvalue's index.
-    #[tactic(auto, unfolding(chunk::specs::Roles::index_field, chunk::specs::Roles::role_fields, opcodes::specs::Bytes::i32_bits))]
+    #[tactic(auto, unfolding(roles_spec::specs::Roles::index_field, roles_spec::specs::Roles::role_fields, base::specs::Bytes::i32_bits))]
     fn index(self) -> u32
         ensures { result ≡ index_field (role_of self) }
     {
@@ -57,7 +57,7 @@ impl Lua51PhysicalRole {
 }
 
 // The role of the word at pc, from a prototype's part of a filled buffer. A pc past its records counts as executable.
-#[tactic(auto, unfolding(chunk::specs::Roles::role_in, chunk::specs::Roles::role_from))]
+#[tactic(auto, unfolding(roles_spec::specs::Roles::role_in, roles_spec::specs::Roles::role_from))]
 pub fn role_at(roles: &[u8], pc: usize) -> Lua51PhysicalRole
     ensures { role_of result ≡ role_in roles.now pc }
 {

@@ -1,8 +1,8 @@
 // The search for the children of a prototype. Those that were found stand in an index, and the search goes on after the last of them, so that
 // all searches of a prototype together pass the rows below it once, in whatever order its children are named.
 ghost use Rattle.std.specs.Prelude.{◌≡◌, suc, ◌-◌, ◌/◌, ◌<◌, ◌≤◌, length};
-ghost use Rattle.chunk.specs.Refusals.{max_rows};
-ghost use Rattle.chunk.specs.Table.{child_of_row, row_bytes};
+ghost use Rattle.roles_spec.specs.Refusals.{max_rows};
+ghost use Rattle.roles_spec.specs.Table.{child_of_row, row_bytes};
 ghost use Rattle.roles.specs.Terms.{RoomForChildren, Tracks, child_from};
 
 use crate::table::{Child, Column, ROW_BYTES, Row, find_child};
@@ -27,15 +27,15 @@ pub(crate) struct Children<'a> {
     row: usize,
     first: u32,
     end: u32,
-    ghost few_rows: { length parent.protos.now / row_bytes ≤ max_rows },
-    ghost tracks: { Tracks parent.protos.now parent.number index.now known row first end },
+    ghost few_rows: { length parent.table.now / row_bytes ≤ max_rows },
+    ghost tracks: { Tracks parent.table.now parent.number index.now known row first end },
 }
 
 impl<'a> Children<'a> {
     // Before the first search: whatever the index has, no child is known.
     pub(crate) fn new(parent: Row<'a>, index: &'a mut [Entry]) -> Children<'a>
-        requires few_rows { length parent.protos.now / row_bytes ≤ max_rows }
-        requires room_for_children { RoomForChildren parent.protos.now index.old }
+        requires few_rows { length parent.table.now / row_bytes ≤ max_rows }
+        requires room_for_children { RoomForChildren parent.table.now index.old }
         ensures { result.parent ≡ parent.entry }
     {
         Children {
@@ -44,13 +44,13 @@ impl<'a> Children<'a> {
             known: 0,
             row: parent.number + 1,
             first: 0,
-            end: (parent.protos.len() / ROW_BYTES) as u32,
+            end: (parent.table.len() / ROW_BYTES) as u32,
         }
     }
 
     // Child k of the prototype. A child that is known, or known to be missing, is found without a search.
     pub(crate) fn find(&mut self, k: u32) -> Option<Child>
-        ensures child { result ≡ child_from self.old.parent.protos.now (suc self.old.parent.number) 0 (child_of_row self.old.parent.protos.now self.old.parent.number k) }
+        ensures child { result ≡ child_from self.old.parent.table.now (suc self.old.parent.number) 0 (child_of_row self.old.parent.table.now self.old.parent.number k) }
         ensures same_parent { self.new.parent ≡ self.old.parent }
     {
         // A `while`: how many are known, or that there are no more, is said by each search.
@@ -74,8 +74,8 @@ impl<'a> Children<'a> {
         ensures fewer_left { self.new.end - self.new.known < self.old.end - self.old.known }
     {
         let parent = self.parent;
-        let protos = parent.protos;
-        match find_child(protos, self.row, parent.field(Column::Depth), 0, self.first) {
+        let table = parent.table;
+        match find_child(table, self.row, parent.field(Column::Depth), 0, self.first) {
             None => self.end = self.known,
             Some(Child { first, row: number }) => {
                 self.index[self.known as usize] = Entry {
@@ -85,7 +85,7 @@ impl<'a> Children<'a> {
                 self.known += 1;
                 self.row = number + 1;
                 // Read last: read before the index is written, the field is kept at every row that the search passes.
-                self.first = first.wrapping_add(Row { protos, number }.field(Column::Upvalues));
+                self.first = first.wrapping_add(Row { table, number }.field(Column::Upvalues));
             }
         }
     }

@@ -1,9 +1,9 @@
 // The prototype table: rows of five u32, in preorder.
 ghost use Rattle.std.specs.Prelude.{◌≡◌, ◌+◌, ◌*◌, ◌<◌, ◌≤◌, length, drop};
-ghost use Rattle.chunk.specs.Table.{child_at, field_at, row_bytes, rows};
+ghost use Rattle.roles_spec.specs.Table.{child_at, field_at, row_bytes, rows};
 ghost use Rattle.roles.specs.Terms.{child_from, column_index};
 
-use opcodes::bytes::read_u32;
+use base::bytes::read_u32;
 
 // The length of a row in bytes.
 pub const ROW_BYTES: usize = 20;
@@ -31,52 +31,52 @@ pub struct Child {
 // A row of the table.
 #[derive(Clone, Copy)]
 pub struct Row<'a> {
-    pub protos: &'a [u8],
+    pub table: &'a [u8],
     pub number: usize,
-    ghost there: { row_bytes * number + row_bytes ≤ length protos.now },
+    ghost there: { row_bytes * number + row_bytes ≤ length table.now },
 }
 
 impl<'a> Row<'a> {
     // A field of it.
-    #[tactic(auto, using(opcodes::proofs::PartLaws::u32_at_part))]
+    #[tactic(auto, using(base::proofs::PartLaws::u32_at_part))]
     pub fn field(&self, column: Column) -> u32
-        ensures { result ≡ field_at self.now.protos.now self.now.number (column_index column) }
+        ensures { result ≡ field_at self.now.table.now self.now.number (column_index column) }
     {
         let at = ROW_BYTES * self.number;
-        read_u32(&self.protos[at..at + ROW_BYTES], 4 * (column as usize))
+        read_u32(&self.table[at..at + ROW_BYTES], 4 * (column as usize))
     }
 }
 
 // Child k of a row of this depth, among the rows from `at` on. The search goes from child to child, and the rows left fall with each call. The
 // index of the child's first binding record is counted on from `first`, that of row `at`'s, wherever the caller counts from (modulo 2^32, which
 // an accepted table does not reach). (The whole table and `at`: the row that is answered is counted from the table's first.)
-pub fn find_child(protos: &[u8], at: usize, depth: u32, k: u32, first: u32) -> Option<Child>
-    ensures { result ≡ child_from protos.now at first (child_at depth (drop at (rows protos.now)) k) }
+pub fn find_child(table: &[u8], at: usize, depth: u32, k: u32, first: u32) -> Option<Child>
+    ensures { result ≡ child_from table.now at first (child_at depth (drop at (rows table.now)) k) }
 {
-    let rows = protos.len() / ROW_BYTES;
+    let rows = table.len() / ROW_BYTES;
     if rows <= at || rows - at <= k as usize {
         return None;
     }
-    let child = next_child(protos, at, depth, first)?;
+    let child = next_child(table, at, depth, first)?;
     if k == 0 {
         return Some(child);
     }
     let row = Row {
-        protos,
+        table,
         number: child.row,
     };
     let next = child.first.wrapping_add(row.field(Column::Upvalues));
-    find_child(protos, child.row + 1, depth, k - 1, next)
+    find_child(table, child.row + 1, depth, k - 1, next)
 }
 
 // Child 0 of a row of this depth, among the rows from `at` on: the first that is one deeper. Those that are still deeper are passed.
 #[tactic(auto, using(crate::proofs::SearchLaws::find_none, crate::proofs::SearchLaws::find_end, crate::proofs::SearchLaws::find_found, crate::proofs::SearchLaws::find_deeper))]
-fn next_child(protos: &[u8], at: usize, depth: u32, first: u32) -> Option<Child>
-    ensures { result ≡ child_from protos.now at first (child_at depth (drop at (rows protos.now)) 0) }
+fn next_child(table: &[u8], at: usize, depth: u32, first: u32) -> Option<Child>
+    ensures { result ≡ child_from table.now at first (child_at depth (drop at (rows table.now)) 0) }
 {
     let mut records = first;
-    for number in at..protos.len() / ROW_BYTES {
-        let row = Row { protos, number };
+    for number in at..table.len() / ROW_BYTES {
+        let row = Row { table, number };
         let d = row.field(Column::Depth);
         if d <= depth {
             return None;

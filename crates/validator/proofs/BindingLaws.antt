@@ -3,21 +3,22 @@ use Rattle.std.proofs.Common.{◌≡◌, ℕ, ◌+◌, ◌-◌, ◌*◌, ◌/◌
 use mathlib.Core.Bool.{false≢true}
 use mathlib.Core.List.{flat_map, flatten}
 use lib.ListN.{get_or-eq_default}
-use Rattle.opcodes.specs.Bytes.{u32_at}
-use Rattle.opcodes.specs.Lists.{elem, only, up_from}
+use Rattle.base.specs.Bytes.{u32_at}
+use Rattle.base.specs.Lists.{elem, only, up_from}
 use Rattle.opcodes.specs.Words.{B, opcode, operand, is, decoded, GETUPVAL, MOVE, CLOSURE, SETLIST}
 use Rattle.opcodes.specs.declared.RawInstruction51.{RawInstruction51}
-use Rattle.opcodes.proofs.ListLaws.{flat_map_append, up_from_append}
-use Rattle.opcodes.proofs.TestLaws.{t_true, is_not, or_false, by_cond}
-use Rattle.chunk.specs.Roles.{Instruction, is_executable, Executable, executable_at, role_at, word_at, roles, owned, existing, companions, binding_count, binding_words, has_extra, role_in}
-use Rattle.chunk.specs.Table.{Proto}
-use Rattle.chunk.proofs.RoleBufferLaws.{length_roles}
-use Rattle.chunk.proofs.RoleLaws.{exists, next_executable, owned_count, companion_unexecutable}
-use Rattle.verdict.specs.Diagnostics.{Diagnostic, diagnostic, not_below, opcode_value, binding_diagnostics}
-use Rattle.verdict.specs.Operands.{is_unknown, is_binding, captured_register, captured_upvalue}
+use Rattle.base.proofs.ListLaws.{flat_map_append, up_from_append}
+use Rattle.base.proofs.TestLaws.{t_true, or_false, by_cond}
+use Rattle.opcodes.proofs.OpcodeTestLaws.{is_not}
+use Rattle.roles_spec.specs.Roles.{Instruction, is_executable, Executable, executable_at, role_at, word_at, roles, owned, existing, companions, binding_count, binding_words, has_extra, role_in}
+use Rattle.roles_spec.specs.Table.{Proto}
+use Rattle.roles_spec.proofs.RoleBufferLaws.{length_roles}
+use Rattle.roles_spec.proofs.RoleLaws.{exists, next_executable, owned_count, companion_unexecutable}
+use Rattle.validator_spec.specs.Diagnostics.{Diagnostic, diagnostic, not_below, opcode_value, binding_diagnostics}
+use Rattle.validator_spec.specs.Operands.{is_unknown, is_binding, captured_register, captured_upvalue}
 use Rattle.validator.specs.Terms.{Describes}
 use Rattle.validator.specs.Steps.{State, emitted, emit_all}
-use Rattle.validator.specs.declared.prototype.Prototype.{Prototype}
+use Rattle.validator.specs.declared.rows.RowLimits.{RowLimits}
 use Rattle.validator.proofs.EmitLaws.{emits_bits, emits_word, emits_then, emits_none}
 use Rattle.validator.proofs.FaultLaws.{claims_count}
 use Rattle.validator.proofs.DescribedLaws.{looked_up, word_read, words_of_lem}
@@ -25,7 +26,7 @@ use Rattle.validator.proofs.DescribedLaws.{looked_up, word_read, words_of_lem}
 -- ---- one
 
 -- all that the binding word w at pc adds, with the limits that the code has
-abbrev pub binding_adds : Prototype → ℕ → ℕ → List Diagnostic
+abbrev pub binding_adds : RowLimits → ℕ → ℕ → List Diagnostic
 binding_adds q pc w =
     flatten (
     only (not (is_binding w)) (diagnostic pc 17 (opcode_value w))
@@ -35,7 +36,7 @@ binding_adds q pc w =
     )
 
 -- by the case of its opcode
-module _ (row : ℕ) (q : Prototype) (pc w : ℕ) (r : RawInstruction51) (split : r ≡ decoded w) (s t : State) where
+module _ (row : ℕ) (q : RowLimits) (pc w : ℕ) (r : RawInstruction51) (split : r ≡ decoded w) (s t : State) where
   number_of_lem : opcode w ≡ r.opcode_num
   unfolding decoded
   number_of_lem = sym (ap (λ (x : RawInstruction51). x.opcode_num) split)
@@ -68,7 +69,7 @@ module _ (row : ℕ) (q : Prototype) (pc w : ℕ) (r : RawInstruction51) (split 
       let other : elem r.opcode_num (MOVE ∷ GETUPVAL ∷ []) ≡ false = rw (ne_eqb r.opcode_num MOVE (λ e. omega arith), ne_eqb r.opcode_num GETUPVAL (λ e. omega arith)) in
       rw (adds_17 other, number_of_lem, lt-ltb 37 r.opcode_num above) (f ∙ emits_bits row pc 17 0 s)
 
-binding_by : (p : Proto) (q : Prototype) (code records : List ℕ) → Describes p q code records → (pc w : ℕ) → pc < length code / 4 → w ≡ u32_at code (4 * pc) → binding_adds q pc w ≡ binding_diagnostics p pc
+binding_by : (p : Proto) (q : RowLimits) (code records : List ℕ) → Describes p q code records → (pc w : ℕ) → pc < length code / 4 → w ≡ u32_at code (4 * pc) → binding_adds q pc w ≡ binding_diagnostics p pc
 unfolding binding_diagnostics
 binding_by p q code records d pc w h e = rw (e ∙ word_read p q code records d pc h, d.limits.stack, d.limits.upvalues)
 
@@ -148,7 +149,7 @@ flat_map_next f i n =
 -- ---- the pass over them
 
 -- at `at`, those before it were looked at
-pub record BindingPass (q : Prototype) (code records : List ℕ) (pc : ℕ) (s₀ s : State) (at : ℕ) : Type 0 where
+pub record BindingPass (q : RowLimits) (code records : List ℕ) (pc : ℕ) (s₀ s : State) (at : ℕ) : Type 0 where
   pub later : pc < at
   pub within : (p : Proto) → Describes p q code records → Executable p pc → T (is (word_at p pc) (CLOSURE ∷ [])) → at ≤ pc + 1 + binding_words p pc
   pub done : (p : Proto) → Describes p q code records → Executable p pc → T (is (word_at p pc) (CLOSURE ∷ []))
@@ -163,7 +164,7 @@ has_record records at b e q = go (ltb at (length records / 8)) refl
     go true h = ltb-true at (length records / 8) h
     go false h = absurd (false≢true (sym (e ∙ rw h) ∙ q))
 
-module _ (q : Prototype) (code records : List ℕ) (pc : ℕ) (s₀ : State) where
+module _ (q : RowLimits) (code records : List ℕ) (pc : ℕ) (s₀ : State) where
   pub pass_begins : BindingPass q code records pc s₀ s₀ (pc + 1)
   unfolding flat_map
   pass_begins =

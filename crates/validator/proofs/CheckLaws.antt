@@ -3,31 +3,31 @@ use Rattle.std.proofs.Common.{◌≡◌, ℕ, suc, ◌+◌, ◌-◌, ◌*◌, �
 use mathlib.Core.List.{flat_map}
 use mathlib.Core.Option.{Option, none, some}
 use Rattle.std.specs.Prelude.{Result, Ok, Err}
-use Rattle.opcodes.specs.Bytes.{u32s, i32_record, u32_record, overwrite}
-use Rattle.opcodes.proofs.ByteLaws.{length_u32s, length_overwrite, overwrite_none}
-use Rattle.chunk.specs.Calls.{answer, refused, accepted, filled, roles_answer, roles_after}
-use Rattle.chunk.specs.Refusals.{Refused, or_else, refuse, refuse_if, too_short, roles_refusal, word_total}
-use Rattle.chunk.specs.Roles.{role_at, role_bytes, records_of, roles, role_in}
-use Rattle.chunk.specs.Table.{Row, Proto, row_bytes, row_at, rows, protos, protos_of, proto_of, proto_in}
-use Rattle.chunk.proofs.RoleLookupLaws.{role_looked_up}
+use Rattle.base.specs.Bytes.{u32s, i32_record, u32_record, overwrite}
+use Rattle.base.proofs.ByteLaws.{length_u32s, length_overwrite, overwrite_none}
+use Rattle.roles_spec.specs.Calls.{answer, refused, accepted, filled, roles_answer, roles_after}
+use Rattle.roles_spec.specs.Refusals.{Refused, or_else, refuse, refuse_if, too_short, roles_refusal, word_total}
+use Rattle.roles_spec.specs.Roles.{role_at, role_bytes, records_of, roles, role_in}
+use Rattle.roles_spec.specs.Table.{Row, Proto, row_bytes, row_at, rows, protos, protos_of, proto_of, proto_in}
+use Rattle.roles_spec.proofs.RoleLookupLaws.{role_looked_up}
 use Rattle.roles.specs.Terms.{refused_of, answer_of as rolesAnswerOf}
 use Rattle.roles.specs.declared.refusals.Refusal.{Refusal}
 use Rattle.roles.specs.declared.refusals.Refusal.TheVariants as refusal
-use Rattle.chunk.proofs.RefusalLaws.{ImageKept, or_else_none, image_kept, roles_kept}
-use Rattle.chunk.proofs.TotalLaws.{protos_drop}
-use Rattle.chunk.proofs.TableLaws.{drop_rows, length_rows}
-use Rattle.chunk.proofs.TotalLaws.{words_front, words_next}
-use Rattle.chunk.proofs.WrittenLaws.{accepted_none}
-use Rattle.verdict.specs.Check.{Checked, checked, check_refusal, check_answer, diagnostics_after}
-use Rattle.verdict.specs.Image.{Image, diagnostics}
-use Rattle.verdict.specs.Statements.{Guarantee}
-use Rattle.verdict.specs.Walk.{max_diagnostics, most_diagnostics, diagnostic_fields, diagnostic_bytes}
-use Rattle.verdict.proofs.GuaranteeLaws.{check_guaranteed}
-use Rattle.verdict.proofs.LimitLaws.{at_most}
+use Rattle.roles_spec.proofs.RefusalLaws.{ImageKept, or_else_none, image_kept, roles_kept}
+use Rattle.roles_spec.proofs.TotalLaws.{protos_drop}
+use Rattle.roles_spec.proofs.TableLaws.{drop_rows, length_rows}
+use Rattle.roles_spec.proofs.TotalLaws.{words_front, words_next}
+use Rattle.roles_spec.proofs.AcceptedCallLaws.{accepted_none}
+use Rattle.validator_spec.specs.Check.{Checked, checked, check_refusal, check_answer, diagnostics_after}
+use Rattle.validator_spec.specs.Image.{Image, diagnostics}
+use Rattle.validator_spec.specs.Statements.{Guarantee}
+use Rattle.validator_spec.specs.Walk.{max_diagnostics, most_diagnostics, diagnostic_fields, diagnostic_bytes}
+use Rattle.validator_spec.proofs.GuaranteeLaws.{check_guaranteed}
+use Rattle.validator_spec.proofs.LimitLaws.{at_most}
 use Rattle.validator.specs.Terms.{answer_of, checked_of, concluded, image_of}
 use Rattle.validator.specs.Steps.{State, Filled, Walked, step_row, walk_to}
 use Rattle.validator.specs.declared.calls.Validation.{Validation}
-use Rattle.validator.proofs.WalkedLaws.{begun, image_walked, walked_concluded, walked_empty}
+use Rattle.validator.proofs.ImageWalkLaws.{begun, image_walked, walked_concluded, walked_empty}
 
 -- ---- the roles are filled in
 

@@ -3,13 +3,13 @@ use Rattle.std.proofs.Common.{◌≡◌, ℕ, zero, suc, ◌+◌, ◌/◌, ◌<�
 use mathlib.Core.Option.{none}
 use lib.ListN.{length-replicate, get_or-replicate}
 use borrow.Author.Tests.{eqb-false}
-use Rattle.chunk.specs.Refusals.{bad_depth}
-use Rattle.chunk.specs.Table.{Row, row_bytes, field_at, row_at, rows, below, children}
-use Rattle.opcodes.specs.Lists.{take_while}
-use Rattle.opcodes.proofs.ListLaws.{select_most, take_while_most}
-use Rattle.chunk.proofs.RefusalLaws.{depth_kept}
-use Rattle.chunk.proofs.TableLaws.{length_rows, drop_rows, children_end, children_found, children_deeper}
-use Rattle.validator.specs.Terms.{child_count, Ordered, Counted, prototype_of}
+use Rattle.roles_spec.specs.Refusals.{bad_depth}
+use Rattle.roles_spec.specs.Table.{Row, row_bytes, field_at, row_at, rows, below, children}
+use Rattle.base.specs.Lists.{take_while}
+use Rattle.base.proofs.ListLaws.{select_most, take_while_most}
+use Rattle.roles_spec.proofs.RefusalLaws.{depth_kept}
+use Rattle.roles_spec.proofs.TableLaws.{length_rows, drop_rows, children_end, children_found, children_deeper}
+use Rattle.validator.specs.Terms.{child_count, Ordered, Counted, row_limits}
 
 -- how many children of a row of this depth stand in the rows from i on
 abbrev from : List ℕ → ℕ → ℕ → ℕ
@@ -191,6 +191,6 @@ module _ (table counts pending : List ℕ) (row : ℕ) (ordered : Ordered table)
 
 pub prototype_is : (table : List ℕ) (i depth words constants upvalues stack children : ℕ) → depth ≡ field_at table i 0 → words ≡ field_at table i 1 → constants ≡ field_at table i 2 → upvalues ≡ field_at table i 3
     → stack ≡ field_at table i 4 → children ≡ child_count table i
-    → record { row = i; depth = depth; words = words; constants = constants; upvalues = upvalues; stack = stack; children = children } ≡ prototype_of table i
-unfolding prototype_of row_at
+    → record { row = i; depth = depth; words = words; constants = constants; upvalues = upvalues; stack = stack; children = children } ≡ row_limits table i
+unfolding row_limits row_at
 prototype_is table i depth words constants upvalues stack children d w c u s n = rw (n, d, w, c, u, s)

@@ -4,31 +4,31 @@ use Rattle.std.proofs.Common.{◌≡◌, ℕ, zero, suc, ◌+◌, ◌-◌, ◌*�
 use mathlib.Core.Path.{subst⁻¹}
 use mathlib.Core.Bool.{and-false}
 use borrow.Author.Tests.{eqb-false}
-use Rattle.opcodes.specs.Bytes.{u32_at}
-use Rattle.opcodes.specs.Lists.{elem, every, only, up_from, all_nil, all_cons}
+use Rattle.base.specs.Bytes.{u32_at}
+use Rattle.base.specs.Lists.{elem, every, only, up_from, all_nil, all_cons}
 use Rattle.opcodes.specs.Words.{Field, B, C, decoded, opcode, operand, field_a, field_bx, is, is_constant, constant_index, without_a, with_sbx, LOADK, GETGLOBAL, SETGLOBAL, GETUPVAL, SETUPVAL, EQ, LT, LE, SELF, FORPREP, FORLOOP, TFORLOOP, CALL, TAILCALL, RETURN, VARARG, SETLIST, CLOSURE, LOADBOOL}
 use Rattle.opcodes.specs.declared.RawInstruction51.{RawInstruction51}
-use Rattle.opcodes.proofs.AllLaws.{all_flatten}
+use Rattle.base.proofs.AllLaws.{all_flatten}
 use Rattle.opcodes.proofs.FieldLaws.{operand_below}
-use Rattle.opcodes.proofs.TestLaws.{t_and, t_true, t_false, double_not, by_or}
-use Rattle.chunk.specs.Roles.{Role, Executable, executable_at, is_executable, role_at, word_at, binding_words, role_in}
-use Rattle.chunk.specs.Table.{Proto}
-use Rattle.chunk.proofs.RoleLaws.{executable}
+use Rattle.base.proofs.TestLaws.{t_and, t_true, t_false, double_not, by_or}
+use Rattle.roles_spec.specs.Roles.{Role, Executable, executable_at, is_executable, role_at, word_at, binding_words, role_in}
+use Rattle.roles_spec.specs.Table.{Proto}
+use Rattle.roles_spec.proofs.RoleLaws.{executable}
 use Rattle.opcodes.proofs.SplitLaws.{raw_of, split_again}
-use Rattle.verdict.specs.Operands.{is_jump, is_skip, is_loadbool_skip, skip_target, constant_bx, upvalue_b, flag_a, flag_limit, register_a, span_ends, register_in, constant_in, child_bx, is_unknown}
-use Rattle.verdict.specs.Rules.{Below, Lands, JumpKept, BindingKept, registers_of, constants_of}
-use Rattle.verdict.specs.Diagnostics.{diagnostics_at}
-use Rattle.verdict.proofs.RuleLaws.{known_none}
+use Rattle.validator_spec.specs.Operands.{is_jump, is_skip, is_loadbool_skip, skip_target, constant_bx, upvalue_b, flag_a, flag_limit, register_a, span_ends, register_in, constant_in, child_bx, is_unknown}
+use Rattle.validator_spec.specs.Rules.{Below, Lands, JumpKept, BindingKept, registers_of, constants_of}
+use Rattle.validator_spec.specs.Diagnostics.{diagnostics_at}
+use Rattle.validator_spec.proofs.RuleLaws.{known_none}
 use Rattle.validator.specs.Clean.{FlowKept, OperandsBelow, limits_of, names_nothing, slot, shapes}
-use Rattle.validator.specs.Terms.{Describes, Limits, Stands}
+use Rattle.validator.specs.Terms.{Describes, HasLimits, Stands}
 use Rattle.validator.specs.declared.clean.Flow.{Flow}
 use Rattle.validator.specs.declared.clean.Flow.TheVariants.{Next, Target, Past}
 use Rattle.validator.specs.declared.clean.Shape.{Shape}
-use Rattle.validator.specs.declared.prototype.Prototype.{Prototype}
+use Rattle.validator.specs.declared.rows.RowLimits.{RowLimits}
 use Rattle.validator.proofs.DescribedLaws.{looked_up, word_read}
-use Rattle.validator.proofs.OwnLaws.{executes}
+use Rattle.validator.proofs.OwnStepLaws.{executes}
 use Rattle.validator.proofs.BindingLaws.{bindings_end, only_closures}
-use Rattle.validator.proofs.OperandLaws.{skips, split_number, split_a, split_b, split_c, split_bx}
+use Rattle.validator.proofs.KnownOperandLaws.{skips, split_number, split_a, split_b, split_c, split_bx}
 use Rattle.validator.proofs.WordLaws.{target_sum}
 
 -- ---- what an opcode has in the table
@@ -81,7 +81,7 @@ way_past (Past j) k e = ap Past (omega (arith, e))
 
 -- ---- operands
 
-module _ (q : Prototype) (w : ℕ) where
+module _ (q : RowLimits) (w : ℕ) where
   abbrev limit : ℕ → ℕ
   limit k = get_or (limits_of q) k 0
 
@@ -210,7 +210,7 @@ module _ (q : Prototype) (w : ℕ) where
 bounded : (f : ℕ → ℕ) (k n : ℕ) → T (every (λ m. ltb (f m) k) (up_from 0 38)) → n < 38 → f n < k
 bounded f k n t h = ltb→lt (f n) k (up_to (λ m. ltb (f m) k) 0 38 n t (omega arith) h)
 
-module _ (q : Prototype) (limits : List ℕ) (s : Shape) (w : RawInstruction51)
+module _ (q : RowLimits) (limits : List ℕ) (s : Shape) (w : RawInstruction51)
     (known : limits ≡ limits_of q) (pre : (w ≡ decoded w.raw) × (w.opcode_num < 38) × (s ≡ names w.opcode_num)) where
   ten : length limits ≡ 10
   unfolding limits_of
@@ -298,7 +298,7 @@ module _ (p : Proto) (pc : ℕ) (k : FlowKept p (names (opcode (word_at p pc))).
 
 -- ---- as the code finds it
 
-module _ (p : Proto) (q : Prototype) (roles : List ℕ) (h : Stands p q roles) where
+module _ (p : Proto) (q : RowLimits) (roles : List ℕ) (h : Stands p q roles) where
   -- a word where no companion was found
   stands : (pc : ℕ) (b : Bool) → b ≡ not (is_executable (role_in roles pc)) → not b ≡ true → T (is_executable (role_at p pc))
   stands pc b e t =
@@ -309,7 +309,7 @@ module _ (p : Proto) (q : Prototype) (roles : List ℕ) (h : Stands p q roles) w
 
 -- ---- the word
 
-pub clean : (p : Proto) (q : Prototype) (pc : ℕ) → Limits p q → Executable p pc → opcode (word_at p pc) < 38 → OperandsBelow q (word_at p pc)
+pub clean : (p : Proto) (q : RowLimits) (pc : ℕ) → HasLimits p q → Executable p pc → opcode (word_at p pc) < 38 → OperandsBelow q (word_at p pc)
     → FlowKept p (names (opcode (word_at p pc))).flow pc (field_bx (word_at p pc)) → diagnostics_at p pc ≡ []
 unfolding is_unknown
 clean p q pc l x known o k =
@@ -324,7 +324,7 @@ clean p q pc l x known o k =
       binding = bindings p pc k x;
     })
 
-module _ (p : Proto) (q : Prototype) (code roles : List ℕ) (d : Describes p q code roles) (pc : ℕ) where
+module _ (p : Proto) (q : RowLimits) (code roles : List ℕ) (d : Describes p q code roles) (pc : ℕ) where
   -- a companion has none
   pub companion_clean : (b : Bool) → b ≡ not (is_executable (role_in roles pc)) → b ≡ true → diagnostics_at p pc ≡ []
   unfolding diagnostics_at executable_at
@@ -344,7 +344,7 @@ module _ (p : Proto) (q : Prototype) (code roles : List ℕ) (d : Describes p q 
 -- ---- the words one after another
 
 -- those from `from` on that stand before pc have none
-pub record CleanPass (q : Prototype) (code roles : List ℕ) (from pc : ℕ) : Type 0 where
+pub record CleanPass (q : RowLimits) (code roles : List ℕ) (from pc : ℕ) : Type 0 where
   pub later : from ≤ pc
   pub within : pc ≤ length code / 4
   pub none : (p : Proto) → Describes p q code roles → (i : ℕ) → from ≤ i → i < pc → diagnostics_at p i ≡ []

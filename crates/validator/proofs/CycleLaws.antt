@@ -1,12 +1,12 @@
 -- The two functions that call each other: a row with the rows below it, and the rows deeper than another, in the code's terms. Assumes nothing.
 use Rattle.std.proofs.Common.{◌≡◌, ℕ, ◌+◌, ◌/◌, ◌<◌, ◌≤◌, true, false, List, length, drop, sym, ap, ◌∙◌, subst, ap₂, arith}
-use Rattle.opcodes.specs.Bytes.{u32s}
-use Rattle.chunk.specs.Table.{row_bytes, row_at, proto_in}
-use Rattle.verdict.specs.Diagnostics.{proto_steps}
-use Rattle.validator.specs.Terms.{prototype_of}
+use Rattle.base.specs.Bytes.{u32s}
+use Rattle.roles_spec.specs.Table.{row_bytes, row_at, proto_in}
+use Rattle.validator_spec.specs.Diagnostics.{proto_steps}
+use Rattle.validator.specs.Terms.{row_limits}
 use Rattle.validator.specs.Steps.{State, Begins, tested_of, moved_to, own_steps, step_row, walk_to}
-use Rattle.validator.specs.declared.prototype.Prototype.{Prototype}
-use Rattle.validator.specs.declared.walk.WalkState.{WalkState}
+use Rattle.validator.specs.declared.rows.RowLimits.{RowLimits}
+use Rattle.validator.specs.declared.state.WalkState.{WalkState}
 use Rattle.validator.proofs.ReadyLaws.{Ready}
 use Rattle.validator.proofs.RowLaws.{More, steps_row, step_begins, step_going, part_walked, tested_ended, child_rest, child_ended, child_moves, child_begins}
 
@@ -17,10 +17,10 @@ module _ (table words roles : List ℕ) (w : WalkState) (ready : Ready table wor
   unfolding own_steps
   same_row = ap (λ (x : State). x.0.row) own ∙ steps_row w.row (w, out) (proto_steps (proto_in table w.row (drop w.first (u32s words))))
 
-  module _ (going : y.0.limit ≡ false) (q : Prototype) (e : q ≡ prototype_of table w.row) (m : WalkState) (moved : m ≡ moved_to (w.first + q.words) y.0) where
+  module _ (going : y.0.limit ≡ false) (q : RowLimits) (e : q ≡ row_limits table w.row) (m : WalkState) (moved : m ≡ moved_to (w.first + q.words) y.0) where
     on : ◌≡◌ {A = State} (m, y.1) (moved_to (w.first + (row_at table w.row).words) y.0, y.1)
-    unfolding prototype_of
-    on = ap (λ (x : WalkState). (x, y.1)) (moved ∙ ap (λ (x : Prototype). moved_to (w.first + x.words) y.0) e)
+    unfolding row_limits
+    on = ap (λ (x : WalkState). (x, y.1)) (moved ∙ ap (λ (x : RowLimits). moved_to (w.first + x.words) y.0) e)
 
     pub next_row : m.row ≡ w.row + 1
     unfolding moved_to
@@ -30,10 +30,10 @@ module _ (table words roles : List ℕ) (w : WalkState) (ready : Ready table wor
     next_begins = subst (λ (x : State). Begins table x.0) (step_going table words (w, out) y own going ∙ sym on) (step_begins table words (w, out) there ready.begins)
 
     pub below_walked : (z : State) → z ≡ walk_to table words q.depth (m, y.1) → z ≡ walk_to table words (row_at table w.row).depth (step_row table words (w, out))
-    unfolding prototype_of
+    unfolding row_limits
     below_walked z f =
         part_walked table words (row_at table w.row).depth (w, out) y own going z
-        (f ∙ ap₂ (λ (d : ℕ) (x : State). walk_to table words d x) (ap (λ (x : Prototype). x.depth) e) on)
+        (f ∙ ap₂ (λ (d : ℕ) (x : State). walk_to table words d x) (ap (λ (x : RowLimits). x.depth) e) on)
 
 -- ---- the rows that are deeper, one after another
 

@@ -1,11 +1,11 @@
 -- What the code is given of a prototype: its words, their number and their roles. Assumes nothing.
 use Rattle.std.proofs.Common.{◌≡◌, ℕ, ◌*◌, ◌/◌, ◌<◌, Bool, true, false, not, List, length, get_or, sym, refl, ap, ◌∙◌}
-use Rattle.opcodes.specs.Bytes.{u32_at}
-use Rattle.opcodes.proofs.ByteLaws.{get_d_u32s, length_u32s}
-use Rattle.chunk.specs.Roles.{Role, is_executable, role_at, word_at, role_in}
-use Rattle.chunk.specs.Table.{Proto}
+use Rattle.base.specs.Bytes.{u32_at}
+use Rattle.base.proofs.ByteLaws.{get_d_u32s, length_u32s}
+use Rattle.roles_spec.specs.Roles.{Role, is_executable, role_at, word_at, role_in}
+use Rattle.roles_spec.specs.Table.{Proto}
 use Rattle.validator.specs.Terms.{Describes}
-use Rattle.validator.specs.declared.prototype.Prototype.{Prototype}
+use Rattle.validator.specs.declared.rows.RowLimits.{RowLimits}
 
 not_same : (a b : Bool) → not a ≡ not b → a ≡ b
 not_same true true e = refl
@@ -13,7 +13,7 @@ not_same true false e = sym e
 not_same false true e = sym e
 not_same false false e = refl
 
-module _ (p : Proto) (q : Prototype) (code records : List ℕ) (d : Describes p q code records) where
+module _ (p : Proto) (q : RowLimits) (code records : List ℕ) (d : Describes p q code records) where
   pub words_of_lem : length code / 4 ≡ length p.code
   words_of_lem = sym (ap length d.code ∙ length_u32s code)
 

@@ -4,12 +4,12 @@ use Rattle.std.specs.Bool.{then_some}
 use Rattle.std.specs.Prelude.{Option, Some, None}
 use Rattle.std.specs.Option.{MatchOption}
 use mathlib.Core.List.{flatten, foldl-append}
-use Rattle.opcodes.specs.Bytes.{i32_bits}
-use Rattle.opcodes.specs.Lists.{only}
-use Rattle.opcodes.proofs.TestLaws.{or_false}
-use Rattle.verdict.specs.Diagnostics.{Diagnostic, diagnostic, not_below, tested_step}
+use Rattle.base.specs.Bytes.{i32_bits}
+use Rattle.base.specs.Lists.{only}
+use Rattle.base.proofs.TestLaws.{or_false}
+use Rattle.validator_spec.specs.Diagnostics.{Diagnostic, diagnostic, not_below, tested_step}
 use Rattle.validator.specs.Terms.{as_list}
-use Rattle.validator.specs.declared.walk.WalkState.{WalkState}
+use Rattle.validator.specs.declared.state.WalkState.{WalkState}
 use Rattle.validator.specs.Steps.{State, emitted, emitted_if, emit, emit_all, ended, tested_of, take_step}
 
 -- ---- one

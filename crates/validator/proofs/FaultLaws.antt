@@ -6,25 +6,25 @@ use mathlib.Core.List.{flat_map}
 use mathlib.Core.Option as option
 use borrow.Author.Tests.{lt-leb}
 use Rattle.std.specs.Prelude.{Option, Some, None}
-use Rattle.opcodes.specs.Bytes.{u32_at, u32s}
-use Rattle.opcodes.specs.Lists.{up_from, tabulate, only}
+use Rattle.base.specs.Bytes.{u32_at, u32s}
+use Rattle.base.specs.Lists.{up_from, tabulate, only}
 use Rattle.opcodes.specs.Words.{is, decoded, operand, field_bx, C, CLOSURE, SETLIST}
 use Rattle.opcodes.specs.declared.RawInstruction51.{RawInstruction51}
-use Rattle.opcodes.proofs.AllLaws.{all_up_from, all_up_to, flat_map_none}
-use Rattle.opcodes.proofs.ListLaws.{length_tabulate, up_from_append, flat_map_append}
-use Rattle.chunk.specs.Table.{Row, Proto, field_at, row_at, rows, child_at, child_of_row, proto_in}
-use Rattle.chunk.specs.Roles.{ClosureBinding, SetlistExtra, executable_at, Executable, binding_count, has_extra, claims, role_at, word_at, owned, existing, companions, is_truncated, role_in, last_owner}
+use Rattle.base.proofs.AllLaws.{all_up_from, all_up_to, flat_map_none}
+use Rattle.base.proofs.ListLaws.{length_tabulate, up_from_append, flat_map_append}
+use Rattle.roles_spec.specs.Table.{Row, Proto, field_at, row_at, rows, child_at, child_of_row, proto_in}
+use Rattle.roles_spec.specs.Roles.{ClosureBinding, SetlistExtra, executable_at, Executable, binding_count, has_extra, claims, role_at, word_at, owned, existing, companions, is_truncated, role_in, last_owner}
 use Rattle.roles.specs.Terms.{child_from}
 use Rattle.roles.specs.declared.table.Child.{Child}
-use Rattle.chunk.proofs.RoleLaws.{exists, owned_count}
-use Rattle.chunk.proofs.ChildLaws.{ChildIn, child_in, no_upvalues}
-use Rattle.chunk.proofs.OwnerLaws.{Owns, owner_is, owner_of}
+use Rattle.roles_spec.proofs.RoleLaws.{exists, owned_count}
+use Rattle.roles_spec.proofs.ChildLaws.{ChildIn, child_in, no_upvalues}
+use Rattle.roles_spec.proofs.OwnerLaws.{Owns, owner_is, owner_of}
 use Rattle.opcodes.proofs.SplitLaws.{raw_of, split_again, has_opcode, has_other}
-use Rattle.verdict.specs.Diagnostics.{diagnostic, truncation_at}
-use Rattle.validator.specs.Terms.{Describes, fault_diagnostics, prototype_of}
+use Rattle.validator_spec.specs.Diagnostics.{diagnostic, truncation_at}
+use Rattle.validator.specs.Terms.{Describes, fault_diagnostics, row_limits}
 use Rattle.validator.proofs.DescribedLaws.{word_read, words_of_lem}
 use Rattle.validator.specs.declared.fault.Lua51RoleFault.TheVariants as fault
-use Rattle.validator.specs.declared.prototype.Prototype.{Prototype}
+use Rattle.validator.specs.declared.rows.RowLimits.{RowLimits}
 
 -- ---- truncated owners
 
@@ -142,12 +142,12 @@ module _ (p : Proto) (pc : ℕ) (r : RawInstruction51) (split : r ≡ decoded r.
 
 -- ---- the prototype that the code was given
 
-module _ (table : List ℕ) (q : Prototype) (same : q ≡ prototype_of table q.row) where
+module _ (table : List ℕ) (q : RowLimits) (same : q ≡ row_limits table q.row) where
   -- the search for its child k, and the child's upvalues
   module _ (k : ℕ) (c : Option Child) (search : c ≡ child_from table (q.row + 1) 0 (child_at q.depth (drop (q.row + 1) (rows table)) k)) where
     child_is : c ≡ child_from table (suc q.row) 0 (child_of_row table q.row k)
-    unfolding prototype_of row_at child_of_row
-    child_is = let depth : q.depth ≡ field_at table q.row 0 = ap (λ (x : Prototype). x.depth) same in search ∙ rw (depth, add-one)
+    unfolding row_limits row_at child_of_row
+    child_is = let depth : q.depth ≡ field_at table q.row 0 = ap (λ (x : RowLimits). x.depth) same in search ∙ rw (depth, add-one)
 
     pub child_found : (x : Child) → c ≡ Some x → ChildIn table q.row k x.row
     unfolding child_from

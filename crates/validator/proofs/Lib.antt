@@ -6,11 +6,11 @@ pub mod CycleLaws
 pub mod DescribedLaws
 pub mod EmitLaws
 pub mod FaultLaws
-pub mod KnownLaws
-pub mod OperandLaws
-pub mod OwnLaws
+pub mod WordDiagnosticLaws
+pub mod KnownOperandLaws
+pub mod OwnStepLaws
 pub mod ReadyLaws
 pub mod RowLaws
-pub mod WalkedLaws
+pub mod ImageWalkLaws
 pub mod WordLaws
-pub mod WrittenRecords
+pub mod DiagnosticBufferLaws

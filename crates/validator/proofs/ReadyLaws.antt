@@ -3,20 +3,20 @@ use Rattle.std.proofs.Common.{◌≡◌, ℕ, suc, ◌+◌, ◌-◌, ◌*◌, �
 use mathlib.Core.Path.{subst⁻¹}
 use mathlib.Core.List.{foldl}
 use lib.ListN.{length-map}
-use Rattle.opcodes.specs.Bytes.{u32s}
-use Rattle.opcodes.proofs.ByteLaws.{length_u32s}
-use Rattle.chunk.specs.Refusals.{max_rows, max_word_bytes, word_total}
-use Rattle.chunk.specs.Roles.{role_at, role_bytes, role_in}
-use Rattle.chunk.specs.Table.{Row, Proto, row_bytes, row_at, rows, children, proto_of, proto_in}
-use Rattle.chunk.proofs.RowPartLaws.{part_length, part_proto}
-use Rattle.chunk.proofs.RefusalLaws.{ImageKept, image_kept}
-use Rattle.chunk.proofs.TableLaws.{length_rows}
-use Rattle.chunk.proofs.TotalLaws.{words_front, words_next}
-use Rattle.verdict.specs.Diagnostics.{proto_steps}
-use Rattle.validator.specs.Terms.{Describes, Ordered, prototype_of}
+use Rattle.base.specs.Bytes.{u32s}
+use Rattle.base.proofs.ByteLaws.{length_u32s}
+use Rattle.roles_spec.specs.Refusals.{max_rows, max_word_bytes, word_total}
+use Rattle.roles_spec.specs.Roles.{role_at, role_bytes, role_in}
+use Rattle.roles_spec.specs.Table.{Row, Proto, row_bytes, row_at, rows, children, proto_of, proto_in}
+use Rattle.roles_spec.proofs.RowPartLaws.{part_length, part_proto}
+use Rattle.roles_spec.proofs.RefusalLaws.{ImageKept, image_kept}
+use Rattle.roles_spec.proofs.TableLaws.{length_rows}
+use Rattle.roles_spec.proofs.TotalLaws.{words_front, words_next}
+use Rattle.validator_spec.specs.Diagnostics.{proto_steps}
+use Rattle.validator.specs.Terms.{Describes, Ordered, row_limits}
 use Rattle.validator.specs.Steps.{State, Begins, Filled, take_step, own_steps}
-use Rattle.validator.specs.declared.prototype.Prototype.{Prototype}
-use Rattle.validator.specs.declared.walk.WalkState.{WalkState}
+use Rattle.validator.specs.declared.rows.RowLimits.{RowLimits}
+use Rattle.validator.specs.declared.state.WalkState.{WalkState}
 
 pub record Ready (table words roles : List ℕ) (w : WalkState) : Type 0 where
   pub filled : Filled table words roles
@@ -31,18 +31,18 @@ few_rows table words roles f = omega (arith, (image_kept table words f.accepted)
 pub in_order : (table words roles : List ℕ) → Filled table words roles → Ordered table
 in_order table words roles f = record { depths = (image_kept table words f.accepted).depths; few = few_rows table words roles f }
 
-module _ (table words roles : List ℕ) (w : WalkState) (r : Ready table words roles w) (there : w.row < length table / row_bytes) (q : Prototype) (e : q ≡ prototype_of table w.row) where
+module _ (table words roles : List ℕ) (w : WalkState) (r : Ready table words roles w) (there : w.row < length table / row_bytes) (q : RowLimits) (e : q ≡ row_limits table w.row) where
   -- the row's words end where the next row's begin
   abbrev next : ℕ
   next = w.first + q.words
 
   stated : w.first + (row_at table w.row).words ≡ next
-  unfolding prototype_of
-  stated = ap (λ (x : Prototype). w.first + x.words) (sym e)
+  unfolding row_limits
+  stated = ap (λ (x : RowLimits). w.first + x.words) (sym e)
 
   pub row_of : q.row ≡ w.row
-  unfolding prototype_of
-  row_of = ap (λ (x : Prototype). x.row) e
+  unfolding row_limits
+  row_of = ap (λ (x : RowLimits). x.row) e
 
   -- the row's words and their roles are there
   pub room : (4 * next ≤ length words) × (role_bytes * next ≤ length roles) × (length words ≤ max_word_bytes)
@@ -76,18 +76,18 @@ module _ (table words roles : List ℕ) (w : WalkState) (r : Ready table words r
       ∙ ap (λ (p : Proto). role_at p pc) (sym own_proto)
 
   describes : Describes (proto_in table w.row (u32s word_part)) q word_part role_part
-  unfolding proto_in proto_of prototype_of
+  unfolding proto_in proto_of row_limits
   describes =
       let n = (row_at table w.row).words in
       record {
         limits =
             record {
-              constants = ap (λ (x : Prototype). x.constants) (sym e);
-              upvalues = ap (λ (x : Prototype). x.upvalues) (sym e);
-              stack = ap (λ (x : Prototype). x.stack) (sym e);
-              children = length-map (children (row_at table w.row).depth (drop (suc w.row) (rows table))) (λ (c : Row). c.upvalues) ∙ ap (λ (x : Prototype). x.children) (sym e);
+              constants = ap (λ (x : RowLimits). x.constants) (sym e);
+              upvalues = ap (λ (x : RowLimits). x.upvalues) (sym e);
+              stack = ap (λ (x : RowLimits). x.stack) (sym e);
+              children = length-map (children (row_at table w.row).depth (drop (suc w.row) (rows table))) (λ (c : Row). c.upvalues) ∙ ap (λ (x : RowLimits). x.children) (sym e);
             };
-        stands = record { words = length-take-le n (u32s word_part) (omega (arith, words_stated)) ∙ ap (λ (x : Prototype). x.words) (sym e); roles = roles_found };
+        stands = record { words = length-take-le n (u32s word_part) (omega (arith, words_stated)) ∙ ap (λ (x : RowLimits). x.words) (sym e); roles = roles_found };
         code = take_all n (u32s word_part) (omega (arith, words_stated));
       }
 
@@ -95,8 +95,8 @@ module _ (table words roles : List ℕ) (w : WalkState) (r : Ready table words r
   pub described : Describes (proto_in table q.row (u32s word_part)) q word_part role_part
   described = subst⁻¹ (λ (i : ℕ). Describes (proto_in table i (u32s word_part)) q word_part role_part) row_of describes
 
-  pub same_prototype : q ≡ prototype_of table q.row
-  same_prototype = e ∙ ap (prototype_of table) (sym row_of)
+  pub same_prototype : q ≡ row_limits table q.row
+  same_prototype = e ∙ ap (row_limits table) (sym row_of)
 
   pub own_row : (out : List ℕ) (z : State) → z ≡ foldl (take_step q.row) (w, out) (proto_steps (proto_in table q.row (u32s word_part))) → z ≡ own_steps table words (w, out)
   unfolding own_steps

@@ -4,14 +4,14 @@ use mathlib.Core.Path.{subst⁻¹}
 use mathlib.Core.List.{foldl}
 use lib.Dec.{nleb→lt}
 use borrow.Author.Tests.{lt-leb}
-use Rattle.opcodes.specs.Bytes.{u32s}
-use Rattle.chunk.specs.Table.{row_bytes, row_at, rows, proto_in}
-use Rattle.chunk.specs.Refusals.{word_total}
-use Rattle.verdict.specs.Diagnostics.{Diagnostic, Step, tested_step, proto_steps}
-use Rattle.opcodes.proofs.TestLaws.{true≢false, or_false, by_cond}
-use Rattle.chunk.proofs.TotalLaws.{words_next}
-use Rattle.verdict.proofs.TreeLaws.{Begins as TestFirst, begins, proto_begins}
-use Rattle.validator.specs.declared.walk.WalkState.{WalkState}
+use Rattle.base.specs.Bytes.{u32s}
+use Rattle.roles_spec.specs.Table.{row_bytes, row_at, rows, proto_in}
+use Rattle.roles_spec.specs.Refusals.{word_total}
+use Rattle.validator_spec.specs.Diagnostics.{Diagnostic, Step, tested_step, proto_steps}
+use Rattle.base.proofs.TestLaws.{true≢false, or_false, by_cond}
+use Rattle.roles_spec.proofs.TotalLaws.{words_next}
+use Rattle.validator_spec.proofs.TreeLaws.{Begins as TestFirst, begins, proto_begins}
+use Rattle.validator.specs.declared.state.WalkState.{WalkState}
 use Rattle.validator.specs.Steps.{State, Begins, emitted, emit, emit_all, ended, tested_of, take_step, moved_to, own_steps, onward, step_row, walk_for, walk_to, goes_on}
 
 -- a test passes or fails

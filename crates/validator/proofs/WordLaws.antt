@@ -3,22 +3,22 @@ use Rattle.std.proofs.Common.{◌≡◌, ℕ, suc, ◌+◌, ◌-◌, ◌<◌, �
 use mathlib.Core.List.{map-append, flatten}
 use Rattle.std.specs.Bool.{then_some}
 use Rattle.std.specs.Prelude.{Option}
-use Rattle.opcodes.specs.Bytes.{i32_bits}
-use Rattle.opcodes.specs.Lists.{elem, only, keep_if, select}
+use Rattle.base.specs.Bytes.{i32_bits}
+use Rattle.base.specs.Lists.{elem, only, keep_if, select}
 use Rattle.opcodes.specs.Words.{B, C, field_bx, number_of, mode_of, with_sbx, with_bx}
 use Rattle.opcodes.specs.declared.Opcode51.{Opcode51}
 use Rattle.opcodes.specs.declared.OpMode51.{OpMode51}
 use Rattle.opcodes.specs.declared.OpMode51.TheVariants.{IABC, IABx, IAsBx}
 use Rattle.opcodes.specs.declared.RawInstruction51.{RawInstruction51}
-use Rattle.chunk.specs.Roles.{Role, is_executable, role_at, role_in}
-use Rattle.chunk.specs.Table.{Proto}
-use Rattle.verdict.specs.Diagnostics.{Diagnostic, diagnostic, not_below, target_diagnostics, jump_diagnostics, skip_diagnostics, operand_diagnostics}
-use Rattle.verdict.specs.Operands.{is_jump, target, is_skip, skip_target, constant_bx, upvalue_b, flag_a, flag_limit, register_a, span_ends, register_in, constant_in, child_bx}
-use Rattle.validator.specs.Terms.{Decodes, Limits, Stands, as_list}
+use Rattle.roles_spec.specs.Roles.{Role, is_executable, role_at, role_in}
+use Rattle.roles_spec.specs.Table.{Proto}
+use Rattle.validator_spec.specs.Diagnostics.{Diagnostic, diagnostic, not_below, target_diagnostics, jump_diagnostics, skip_diagnostics, operand_diagnostics}
+use Rattle.validator_spec.specs.Operands.{is_jump, target, is_skip, skip_target, constant_bx, upvalue_b, flag_a, flag_limit, register_a, span_ends, register_in, constant_in, child_bx}
+use Rattle.validator.specs.Terms.{Decodes, HasLimits, Stands, as_list}
 use Rattle.validator.specs.Steps.{State, emitted, emitted_if, emit_all}
-use Rattle.validator.specs.declared.prototype.Prototype.{Prototype}
+use Rattle.validator.specs.declared.rows.RowLimits.{RowLimits}
 use Rattle.validator.proofs.EmitLaws.{emits_none, emits_word, emits_bits, emits_only, emits_then}
-use Rattle.validator.proofs.OperandLaws.{listed}
+use Rattle.validator.proofs.KnownOperandLaws.{listed}
 
 -- ---- operands
 
@@ -49,7 +49,7 @@ spans_checked row pc limit w first second s t u q e f =
     ∙ ap (λ (ds : List Diagnostic). emit_all row ds s) (sym (below_append pc 11 limit (as_list first) (as_list second)) ∙ ap (not_below pc 11 limit) q)
 
 -- all of them, with the limits that the code has
-pub emits_operands : (row : ℕ) (p : Proto) (q : Prototype) (pc w : ℕ) → Limits p q → (s t : State)
+pub emits_operands : (row : ℕ) (p : Proto) (q : RowLimits) (pc w : ℕ) → HasLimits p q → (s t : State)
     → t
     ≡ emit_all row (flatten (
     not_below pc 7 q.constants (constant_bx w)
@@ -95,7 +95,7 @@ target_sum pc w = go (field_bx w)
             let l : 131071 ≤ n = ltb-false _ _ e in
             rw (e, le-ltb (pc + 1 + n) 131071 (omega arith)) (ap pos (omega arith))
 
-module _ (row pc sum : ℕ) (p : Proto) (q : Prototype) (roles : List ℕ) (h : Stands p q roles) (s t : State) where
+module _ (row pc sum : ℕ) (p : Proto) (q : RowLimits) (roles : List ℕ) (h : Stands p q roles) (s t : State) where
   -- before the first word
   pub target_before : sum < 131071 → t ≡ emitted row pc 5 (4294967295 - (131071 - 1 - sum)) s → t ≡ emit_all row (target_diagnostics p pc (pos sum -ℤ pos 131071)) s
   unfolding target_diagnostics
@@ -155,7 +155,7 @@ module _ (row pc w : ℕ) (p : Proto) (s : State) where
   jump sum t e q f = rw (e, target_sum pc w, ← q) f
 
   -- the skip
-  pub skip : (q : Prototype) (roles : List ℕ) (b : Bool) (t : State) → Stands p q roles → b ≡ is_skip w && not (is_executable (role_in roles (skip_target pc))) → (o : Option ℕ) → o ≡ then_some b (pc + 2) → t ≡ emitted_if row pc 6 o s
+  pub skip : (q : RowLimits) (roles : List ℕ) (b : Bool) (t : State) → Stands p q roles → b ≡ is_skip w && not (is_executable (role_in roles (skip_target pc))) → (o : Option ℕ) → o ≡ then_some b (pc + 2) → t ≡ emitted_if row pc 6 o s
       → t ≡ emit_all row (skip_diagnostics p pc w) s
   unfolding skip_diagnostics skip_target i32_bits
   skip q roles b t h e o g f =

@@ -1,19 +1,19 @@
 -- What the fast test of a word knows of its opcode and its prototype: the terms of inner contracts. Assumes nothing: these are definitions.
 use Rattle.std.specs.Prelude.{◌≡◌, ℕ, ◌+◌, T, List, [], ◌∷◌, pos, ◌-ℤ◌}
-use Rattle.chunk.specs.Roles.{is_executable, role_at}
-use Rattle.chunk.specs.Table.{Proto}
-use Rattle.verdict.specs.Operands.{upvalue_b, flag_a, flag_limit, child_bx}
-use Rattle.verdict.specs.Rules.{Below, Lands, registers_of, constants_of}
+use Rattle.roles_spec.specs.Roles.{is_executable, role_at}
+use Rattle.roles_spec.specs.Table.{Proto}
+use Rattle.validator_spec.specs.Operands.{upvalue_b, flag_a, flag_limit, child_bx}
+use Rattle.validator_spec.specs.Rules.{Below, Lands, registers_of, constants_of}
 use Rattle.validator.specs.declared.clean.Flow.{Flow}
 use Rattle.validator.specs.declared.clean.Flow.TheVariants.{Next, Target, Past}
 use Rattle.validator.specs.declared.clean.Limit.{Limit}
 use Rattle.validator.specs.declared.clean.Limit.TheVariants.{Nothing, NothingK, Register, RegisterK, Rk, Constant, Upvalue, UpvalueK, Flag, Child}
 use Rattle.validator.specs.declared.clean.Shape.{Shape}
-use Rattle.validator.specs.declared.prototype.Prototype.{Prototype}
+use Rattle.validator.specs.declared.rows.RowLimits.{RowLimits}
 
 -- the limits of operands, by their slots: of a field that names nothing, of a register, of an RK operand, of an upvalue (two slots each, the second
 -- for values that have the bit of a constant), of a flag, of a child
-unfoldable pub limits_of : Prototype → List ℕ
+unfoldable pub limits_of : RowLimits → List ℕ
 limits_of q = 262144 ∷ 262144 ∷ q.stack ∷ 0 ∷ q.stack ∷ q.constants ∷ q.upvalues ∷ 0 ∷ flag_limit ∷ q.children ∷ []
 
 -- the slot of each in this list
@@ -81,7 +81,7 @@ shapes =
     ∷ []
 
 -- all operands that a word names are below these limits
-pub record OperandsBelow (q : Prototype) (w : ℕ) : Type 0 where
+pub record OperandsBelow (q : RowLimits) (w : ℕ) : Type 0 where
   pub constant : Below q.constants (constants_of w)
   pub upvalue : Below q.upvalues (upvalue_b w)
   pub flag : Below flag_limit (flag_a w)

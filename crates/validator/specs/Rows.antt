@@ -1,12 +1,12 @@
 -- The prototype that a row of the table has: the terms of inner contracts. Assumes nothing: these are definitions.
 use Rattle.std.specs.Prelude.{ℕ, List}
-use Rattle.opcodes.specs.Bytes.{u32s}
-use Rattle.chunk.specs.Table.{Proto, proto_in}
-use Rattle.validator.specs.declared.prototype.RowBody.{RowBody}
+use Rattle.base.specs.Bytes.{u32s}
+use Rattle.roles_spec.specs.Table.{Proto, proto_in}
+use Rattle.validator.specs.declared.rows.RowBody.{RowBody}
 
 -- the row's prototype, of these words
 abbrev pub proto_with : RowBody → List ℕ → Proto
-proto_with r words = proto_in r.protos.now r.body.proto.row words
+proto_with r words = proto_in r.table.now r.body.limits.row words
 
 -- of its own words
 abbrev pub proto_of_row : RowBody → Proto

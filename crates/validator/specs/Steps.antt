@@ -3,15 +3,15 @@
 use Rattle.std.specs.Prelude.{◌≡◌, ℕ, zero, suc, ◌+◌, ◌-◌, ◌*◌, ◌/◌, ◌%◌, ◌^◌, ◌<◌, ◌≤◌, Bool, true, cond, not, ◌&&◌, ◌||◌, List, [], ◌∷◌, length, take, drop, Option, Some, None, ◌==◌, nat_le, nat_lt}
 use mathlib.Core.List.{foldl}
 use Rattle.std.proofs.Math.Option.{none}
-use Rattle.opcodes.specs.Bytes.{u32s, u32_record, i32_bits, i32_record, overwrite}
-use Rattle.opcodes.specs.Lists.{any}
-use Rattle.chunk.specs.Table.{row_bytes, row_at, rows, proto_in}
-use Rattle.chunk.specs.Roles.{role_at, role_bytes, role_in}
-use Rattle.chunk.specs.Refusals.{word_total, image_refusal}
-use Rattle.verdict.specs.Diagnostics.{Diagnostic, Step, proto_steps}
-use Rattle.verdict.specs.Walk.{RowDiagnostic, diagnostic_fields, diagnostic_bytes, error_in}
-use Rattle.verdict.specs.Image.{Image, image_walk}
-use Rattle.validator.specs.declared.walk.WalkState.{WalkState}
+use Rattle.base.specs.Bytes.{u32s, u32_record, i32_bits, i32_record, overwrite}
+use Rattle.base.specs.Lists.{any}
+use Rattle.roles_spec.specs.Table.{row_bytes, row_at, rows, proto_in}
+use Rattle.roles_spec.specs.Roles.{role_at, role_bytes, role_in}
+use Rattle.roles_spec.specs.Refusals.{word_total, image_refusal}
+use Rattle.validator_spec.specs.Diagnostics.{Diagnostic, Step, proto_steps}
+use Rattle.validator_spec.specs.Walk.{RowDiagnostic, diagnostic_fields, diagnostic_bytes, error_in}
+use Rattle.validator_spec.specs.Image.{Image, image_walk}
+use Rattle.validator.specs.declared.state.WalkState.{WalkState}
 
 -- the state and the buffer
 abbrev pub State : Type 0

@@ -1,21 +1,21 @@
--- What the code's own types stand for: the terms in which its contracts cite the definitions of `verdict`. Assumes nothing: these are definitions.
+-- What the code's own types stand for: the terms in which its contracts cite the definitions of `validator_spec`. Assumes nothing: these are definitions.
 use Rattle.std.specs.Prelude.{◌≡◌, ℕ, suc, ◌+◌, ◌/◌, ◌<◌, ◌≤◌, ◌||◌, List, [], ◌∷◌, length, drop, pos, nat_lt, slice_index, slice_index_or, Option, Some, None, Result, Ok, Err}
 use Rattle.std.proofs.Math.Option.{none}
-use Rattle.opcodes.specs.Bytes.{u32s}
+use Rattle.base.specs.Bytes.{u32s}
 use Rattle.opcodes.specs.Words.{decoded}
 use Rattle.opcodes.specs.declared.Opcode51.{Opcode51}
 use Rattle.opcodes.specs.declared.OpcodeField.TheVariants.{Known}
 use Rattle.opcodes.specs.declared.RawInstruction51.{RawInstruction51}
-use Rattle.chunk.specs.Table.{Proto, row_bytes, row_at, rows, children}
-use Rattle.chunk.specs.Roles.{role_at, role_in}
-use Rattle.chunk.specs.Refusals.{bad_depth, max_rows}
-use Rattle.chunk.specs.Calls.{Answer, refused, accepted}
+use Rattle.roles_spec.specs.Table.{Proto, row_bytes, row_at, rows, children}
+use Rattle.roles_spec.specs.Roles.{role_at, role_in}
+use Rattle.roles_spec.specs.Refusals.{bad_depth, max_rows}
+use Rattle.roles_spec.specs.Calls.{Answer, refused, accepted}
 use Rattle.roles.specs.Terms.{refused_of}
 use Rattle.roles.specs.declared.refusals.Refusal.{Refusal}
-use Rattle.verdict.specs.Diagnostics.{Diagnostic, diagnostic}
-use Rattle.verdict.specs.Walk.{Verdict, ValidForParser, Incomplete, Invalid, max_diagnostics, verdict_of}
-use Rattle.verdict.specs.Image.{Image}
-use Rattle.verdict.specs.Check.{Checked}
+use Rattle.validator_spec.specs.Diagnostics.{Diagnostic, diagnostic}
+use Rattle.validator_spec.specs.Walk.{Verdict, ValidForParser, Incomplete, Invalid, max_diagnostics, verdict_of}
+use Rattle.validator_spec.specs.Image.{Image}
+use Rattle.validator_spec.specs.Check.{Checked}
 use Rattle.validator.specs.declared.calls.Validation.{Validation}
 use Rattle.validator.specs.declared.calls.Verdict.{Verdict as VerdictCode}
 use Rattle.validator.specs.declared.calls.Verdict.TheVariants as code
@@ -24,8 +24,8 @@ use Rattle.validator.specs.declared.codes.Code.TheVariants as diagnosed
 use Rattle.validator.specs.declared.fault.Lua51RoleFault.{Lua51RoleFault}
 use Rattle.validator.specs.declared.fault.Lua51RoleFault.TheVariants as fault
 use Rattle.validator.specs.declared.image.Image.{Image as ImageCode}
-use Rattle.validator.specs.declared.prototype.Prototype.{Prototype}
-use Rattle.validator.specs.declared.walk.WalkState.{WalkState}
+use Rattle.validator.specs.declared.rows.RowLimits.{RowLimits}
+use Rattle.validator.specs.declared.state.WalkState.{WalkState}
 
 -- ---- the call
 
@@ -35,7 +35,7 @@ image_of table words warnings errors = record { table = table; words = words; wa
 
 -- as the code holds it
 abbrev pub image_in : ImageCode → Image
-image_in i = image_of i.protos.now i.words.now i.warnings i.errors
+image_in i = image_of i.table.now i.words.now i.warnings i.errors
 
 -- a verdict
 unfoldable pub verdict_of_case : VerdictCode → Verdict
@@ -89,8 +89,8 @@ abbrev pub child_count : List ℕ → ℕ → ℕ
 child_count table i = length (children (row_at table i).depth (drop (suc i) (rows table)))
 
 -- the prototype in row i, by its fields
-unfoldable pub prototype_of : List ℕ → ℕ → Prototype
-prototype_of table i =
+unfoldable pub row_limits : List ℕ → ℕ → RowLimits
+row_limits table i =
     let r = row_at table i in
     record {
       row = i;
@@ -122,20 +122,20 @@ pub record Counted (table : List ℕ) (row : ℕ) (counts pending : List ℕ) : 
   pub roots : slice_index_or pending 0 0 + row ≤ length table / row_bytes
 
 -- the limits of a prototype's operands are these
-pub record Limits (p : Proto) (q : Prototype) : Type 0 where
+pub record HasLimits (p : Proto) (q : RowLimits) : Type 0 where
   pub constants : p.constants ≡ q.constants
   pub upvalues : p.upvalues ≡ q.upvalues
   pub stack : p.stack ≡ q.stack
   pub children : length p.children ≡ q.children
 
 -- so many words has it, and these are their roles
-pub record Stands (p : Proto) (q : Prototype) (records : List ℕ) : Type 0 where
+pub record Stands (p : Proto) (q : RowLimits) (records : List ℕ) : Type 0 where
   pub words : length p.code ≡ q.words
   pub roles : (pc : ℕ) → role_in records pc ≡ role_at p pc
 
 -- all that the code is given of it
-pub record Describes (p : Proto) (q : Prototype) (bytes records : List ℕ) : Type 0 where
-  pub limits : Limits p q
+pub record Describes (p : Proto) (q : RowLimits) (bytes records : List ℕ) : Type 0 where
+  pub limits : HasLimits p q
   pub stands : Stands p q records
   pub code : p.code ≡ u32s bytes
 
@@ -146,7 +146,7 @@ pub record Decodes (op : Opcode51) (w : RawInstruction51) : Type 0 where
   pub split : w ≡ decoded w.raw
   pub known : w.opcode ≡ Known op
 
--- what a word names, as the list of `verdict`'s definitions: none or one
+-- what a word names, as the list of `validator_spec`'s definitions: none or one
 abbrev pub as_list : Option ℕ → List ℕ
 as_list None = []
 as_list (Some v) = v ∷ []

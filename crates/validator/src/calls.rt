@@ -1,23 +1,24 @@
 // The check call.
 ghost use Rattle.std.specs.Prelude.{◌≡◌, ◌+◌, ◌-◌, ◌*◌, ◌/◌, ◌≤◌, ◌||◌, length, nat_lt};
 ghost use mathlib.Core.List.{flat_map};
-ghost use Rattle.opcodes.specs.Bytes.{i32_record, overwrite};
-ghost use Rattle.chunk.specs.Calls.{accepted, answer, filled, roles_after};
-ghost use Rattle.chunk.specs.Refusals.{max_rows, too_short};
-ghost use Rattle.chunk.specs.Table.{row_bytes};
-ghost use Rattle.verdict.specs.Check.{Checked, check_answer, checked, diagnostics_after};
-ghost use Rattle.verdict.specs.Image.{diagnostics as found};
-ghost use Rattle.verdict.specs.Statements.{Guarantee};
-ghost use Rattle.verdict.specs.Walk.{max_diagnostics, diagnostic_bytes, diagnostic_fields, verdict_of};
+ghost use Rattle.base.specs.Bytes.{i32_record, overwrite};
+ghost use Rattle.roles_spec.specs.Calls.{accepted, answer, filled, roles_after};
+ghost use Rattle.roles_spec.specs.Refusals.{max_rows, too_short};
+ghost use Rattle.roles_spec.specs.Table.{row_bytes};
+ghost use Rattle.validator_spec.specs.Check.{Checked, check_answer, checked, diagnostics_after};
+ghost use Rattle.validator_spec.specs.Image.{diagnostics as found};
+ghost use Rattle.validator_spec.specs.Statements.{Guarantee};
+ghost use Rattle.validator_spec.specs.Walk.{max_diagnostics, diagnostic_bytes, diagnostic_fields, verdict_of};
 ghost use Rattle.validator.specs.Terms.{answer_of, checked_of, concluded, image_in, image_of, verdict_of_case};
 ghost use Rattle.validator.specs.Steps.{Walked};
 
+use crate::child_counts::count_children;
 use crate::image::Image;
-use crate::proto::validate_proto;
-use crate::prototype::{Table, count_children};
-use crate::walk::WalkState;
+use crate::rows::CountedImage;
+use crate::state::WalkState;
+use crate::walk::validate_proto;
 use roles::calls::write_roles;
-use roles::refusals::{MAX_PROTOS, Refusal};
+use roles::refusals::{MAX_ROWS, Refusal};
 use roles::table::{FEW_ROWS, ROW_BYTES};
 
 // The length of a record in bytes.
@@ -48,21 +49,21 @@ pub struct Validation {
 // answers the verdict and the number of diagnostics. `warnings` and `errors` are those that the image came with. A refused call writes nothing,
 // but that 8, where the diagnostics do not fit, comes with the roles written.
 pub fn validate_chunk_lua51(
-    protos: &[u8],
+    table: &[u8],
     words: &[u8],
     warnings: u32,
     errors: u32,
     roles: &mut [u8],
     diagnostics: &mut [u8],
 ) -> Result<Validation, Refusal>
-    ensures result_value { answer_of result ≡ check_answer (image_of protos.now words.now warnings errors) (length roles.old) (length diagnostics.old) }
-    ensures roles_after { roles.new ≡ roles_after protos.now words.now roles.old }
-    ensures diagnostics_after { diagnostics.new ≡ diagnostics_after (image_of protos.now words.now warnings errors) (length roles.old) diagnostics.old }
-    ensures guarantee { (c : Checked) → answer_of result ≡ accepted c → Guarantee (image_of protos.now words.now warnings errors) c }
+    ensures result_value { answer_of result ≡ check_answer (image_of table.now words.now warnings errors) (length roles.old) (length diagnostics.old) }
+    ensures roles_after { roles.new ≡ roles_after table.now words.now roles.old }
+    ensures diagnostics_after { diagnostics.new ≡ diagnostics_after (image_of table.now words.now warnings errors) (length roles.old) diagnostics.old }
+    ensures guarantee { (c : Checked) → answer_of result ≡ accepted c → Guarantee (image_of table.now words.now warnings errors) c }
 {
-    write_roles(protos, words, roles)?;
+    write_roles(table, words, roles)?;
     let image = Image {
-        protos,
+        table,
         words,
         roles,
         warnings,
@@ -103,23 +104,23 @@ fn validate_counted(image: &Image, diagnostics: &mut [u8]) -> Result<Validation,
 fn validate_rows(image: &Image, out: &mut [u8]) -> WalkState
     ensures { Walked (image_in image.now) out.old (result, out.new) }
 {
-    if image.protos.len() / ROW_BYTES <= FEW_ROWS {
+    if image.table.len() / ROW_BYTES <= FEW_ROWS {
         validate_within::<FEW_ROWS>(image, out)
     } else {
-        validate_within::<MAX_PROTOS>(image, out)
+        validate_within::<MAX_ROWS>(image, out)
     }
 }
 
 // The same, for a table of at most N rows.
 fn validate_within<const N: usize>(image: &Image, out: &mut [u8]) -> WalkState
-    requires rows { length image.now.protos.now / row_bytes ≤ N }
+    requires rows { length image.now.table.now / row_bytes ≤ N }
     requires small { N ≤ max_rows }
     ensures { Walked (image_in image.now) out.old (result, out.new) }
 {
     let mut counts = [0u32; N];
-    count_children(image.protos, &mut counts);
-    let table = Table {
-        protos: image.protos,
+    count_children(image.table, &mut counts);
+    let counted = CountedImage {
+        table: image.table,
         words: image.words,
         roles: image.roles,
         counts: &counts,
@@ -132,7 +133,7 @@ fn validate_within<const N: usize>(image: &Image, out: &mut [u8]) -> WalkState
         error: false,
         limit: false,
     };
-    validate_proto(start, &table, out)
+    validate_proto(start, &counted, out)
 }
 
 // How many diagnostics end the walk at a test, after those that came in.
@@ -168,7 +169,7 @@ fn limit_reached(image: &Image, walk: WalkState) -> bool
 }
 
 // By whether there are errors and whether the limit was reached.
-#[tactic(auto, unfolding(crate::specs::Terms::verdict_of_case, verdict::specs::Walk::verdict_of))]
+#[tactic(auto, unfolding(crate::specs::Terms::verdict_of_case, validator_spec::specs::Walk::verdict_of))]
 fn verdict_of(errors: bool, limit: bool) -> Verdict
     ensures { verdict_of_case result ≡ verdict_of errors limit }
 {

@@ -3,20 +3,20 @@
 // diagnostics or not. (The functions of `operands` make branches that depend on the opcode: the check took 19.5 ns a word without the table and
 // 9.3 with it, and a transcription with those functions 21.8, with the table 14.9.)
 ghost use Rattle.std.specs.Prelude.{◌≡◌, ℕ, ◌+◌, ◌*◌, ◌/◌, ◌%◌, ◌<◌, ◌≤◌, true, false, [], length, pos, ◌-ℤ◌, nat_le, nat_lt, slice_index, slice_index_or};
-ghost use Rattle.opcodes.specs.Bytes.{u32_at};
+ghost use Rattle.base.specs.Bytes.{u32_at};
 ghost use Rattle.opcodes.specs.Words.{decoded};
-ghost use Rattle.chunk.specs.Refusals.{max_word_bytes};
-ghost use Rattle.chunk.specs.Roles.{Executable};
-ghost use Rattle.chunk.specs.Table.{Proto};
-ghost use Rattle.verdict.specs.Diagnostics.{diagnostics_at};
-ghost use Rattle.verdict.specs.Rules.{Lands};
+ghost use Rattle.roles_spec.specs.Refusals.{max_word_bytes};
+ghost use Rattle.roles_spec.specs.Roles.{Executable};
+ghost use Rattle.roles_spec.specs.Table.{Proto};
+ghost use Rattle.validator_spec.specs.Diagnostics.{diagnostics_at};
+ghost use Rattle.validator_spec.specs.Rules.{Lands};
 ghost use Rattle.validator.specs.Terms.{Describes, Stands};
 ghost use Rattle.validator.specs.Clean.{FlowKept, OperandsBelow, limits_of, names_nothing, slot, shapes};
 
 use crate::operands::FLAG_LIMIT;
-use crate::prototype::Body;
+use crate::rows::Body;
 use crate::word::{OFFSET_SBX, is_companion};
-use opcodes::bytes::read_u32;
+use base::bytes::read_u32;
 use opcodes::{Opcode51, RawInstruction51};
 
 // The last opcode that is known, by its number: numbers above it have no opcode, and the table of shapes is by number.
@@ -240,21 +240,21 @@ static SHAPES: [Shape; 38] = [
 pub fn next_suspect(body: &Body, from: usize) -> usize
     requires { from ≤ length body.now.code.now / 4 }
     ensures in_range { (from ≤ result) × (result ≤ length body.now.code.now / 4) }
-    ensures clean { (p : Proto) → Describes p body.now.proto body.now.code.now body.now.roles.now → (pc : ℕ) → from ≤ pc → pc < result → diagnostics_at p pc ≡ [] }
-    ensures executable { result < length body.now.code.now / 4 → (p : Proto) → Describes p body.now.proto body.now.code.now body.now.roles.now → Executable p result }
+    ensures clean { (p : Proto) → Describes p body.now.limits body.now.code.now body.now.roles.now → (pc : ℕ) → from ≤ pc → pc < result → diagnostics_at p pc ≡ [] }
+    ensures executable { result < length body.now.code.now / 4 → (p : Proto) → Describes p body.now.limits body.now.code.now body.now.roles.now → Executable p result }
 {
-    let proto = body.proto;
+    let row = body.limits;
     let limits = [
         NO_LIMIT,
         NO_LIMIT,
-        proto.stack,
+        row.stack,
         0,
-        proto.stack,
-        proto.constants,
-        proto.upvalues,
+        row.stack,
+        row.constants,
+        row.upvalues,
         0,
         FLAG_LIMIT,
-        proto.children,
+        row.children,
     ];
     let test = CleanTest {
         body,
@@ -274,15 +274,15 @@ pub fn next_suspect(body: &Body, from: usize) -> usize
 struct CleanTest<'a> {
     body: &'a Body<'a>,
     limits: &'a [u32],
-    ghost limits_of_body: { limits.now ≡ limits_of body.now.proto },
+    ghost limits_of_body: { limits.now ≡ limits_of body.now.limits },
 }
 
 impl<'a> CleanTest<'a> {
     // Whether the word at pc is a companion or is found clean.
     fn is_clean(&self, pc: usize) -> bool
         requires { pc < length self.now.body.now.code.now / 4 }
-        ensures clean { (p : Proto) → Describes p self.now.body.now.proto self.now.body.now.code.now self.now.body.now.roles.now → result ≡ true → diagnostics_at p pc ≡ [] }
-        ensures executable { (p : Proto) → Describes p self.now.body.now.proto self.now.body.now.code.now self.now.body.now.roles.now → result ≡ false → Executable p pc }
+        ensures clean { (p : Proto) → Describes p self.now.body.now.limits self.now.body.now.code.now self.now.body.now.roles.now → result ≡ true → diagnostics_at p pc ≡ [] }
+        ensures executable { (p : Proto) → Describes p self.now.body.now.limits self.now.body.now.code.now self.now.body.now.roles.now → result ≡ false → Executable p pc }
     {
         let body = self.body;
         if is_companion(body.roles, pc) {
@@ -299,10 +299,10 @@ impl<'a> CleanTest<'a> {
     // Whether all that the word names is below its limit.
     fn operands_below(&self, shape: Shape, w: RawInstruction51) -> bool
         requires { (w ≡ decoded w.raw) × (w.opcode_num < 38) × (shape ≡ slice_index_or shapes w.opcode_num names_nothing) }
-        ensures { result ≡ true → OperandsBelow self.now.body.now.proto w.raw }
+        ensures { result ≡ true → OperandsBelow self.now.body.now.limits w.raw }
     {
         let limits = self.limits;
-        let stack = self.body.proto.stack;
+        let stack = self.body.limits.stack;
         is_below(limits, shape.a, w.a as u32)
             && is_below(limits, shape.bx, w.bx)
             && field_below(limits, shape.b, w.b)
@@ -347,7 +347,7 @@ fn span_below(stack: u32, span: u8, a: u8, value: u16) -> bool
 // Whether the word has no target or an executable one, and skips to no companion and owns none.
 fn goes_to_word(body: &Body, flow: Flow, pc: u32, bx: u32) -> bool
     requires { (4 * pc < max_word_bytes) × (bx < 262144) }
-    ensures { (p : Proto) → Stands p body.now.proto body.now.roles.now → result ≡ true → FlowKept p flow pc bx }
+    ensures { (p : Proto) → Stands p body.now.limits body.now.roles.now → result ≡ true → FlowKept p flow pc bx }
 {
     match flow {
         Flow::Next => true,
@@ -358,13 +358,13 @@ fn goes_to_word(body: &Body, flow: Flow, pc: u32, bx: u32) -> bool
 
 // Whether an executable word stands at a target that is so much, less the offset of sBx.
 fn target_is_word(body: &Body, sum: u32) -> bool
-    ensures { (p : Proto) → Stands p body.now.proto body.now.roles.now → result ≡ true → Lands p (pos sum -ℤ pos 131071) }
+    ensures { (p : Proto) → Stands p body.now.limits body.now.roles.now → result ≡ true → Lands p (pos sum -ℤ pos 131071) }
 {
     if sum < OFFSET_SBX {
         return false;
     }
     let target = sum - OFFSET_SBX;
-    if body.proto.words <= target {
+    if body.limits.words <= target {
         return false;
     }
     !is_companion(body.roles, target as usize)

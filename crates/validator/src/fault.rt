@@ -1,15 +1,15 @@
 // The truncated owner of a prototype, after the faults of luad's `discover_roles_lua51`. There is at most one: it owns all words after it.
 ghost use Rattle.std.specs.Prelude.{◌≡◌, ℕ, ◌+◌, ◌/◌, List, length, slice_index};
 ghost use mathlib.Core.List.{flat_map};
-ghost use Rattle.opcodes.specs.Lists.{up_from};
+ghost use Rattle.base.specs.Lists.{up_from};
 ghost use Rattle.opcodes.specs.Words.{decoded};
-ghost use Rattle.chunk.specs.Roles.{claims, last_owner, role_in};
-ghost use Rattle.verdict.specs.Diagnostics.{truncation_at};
+ghost use Rattle.roles_spec.specs.Roles.{claims, last_owner, role_in};
+ghost use Rattle.validator_spec.specs.Diagnostics.{truncation_at};
 ghost use Rattle.validator.specs.Rows.{proto_of_row, proto_with};
 ghost use Rattle.validator.specs.Terms.{fault_diagnostics};
 
-use crate::prototype::RowBody;
-use opcodes::bytes::read_u32;
+use crate::rows::RowBody;
+use base::bytes::read_u32;
 use opcodes::{Opcode51, OpcodeField, RawInstruction51};
 use roles::role::role_at;
 use roles::table::{Child, Column, Row, find_child};
@@ -46,7 +46,7 @@ pub fn find_fault(row: &RowBody) -> Option<Lua51RoleFault>
 }
 
 // The owner of the word at pc, or that pc where it is executable.
-#[tactic(auto, unfolding(chunk::specs::Roles::last_owner))]
+#[tactic(auto, unfolding(roles_spec::specs::Roles::last_owner))]
 fn last_owner(roles: &[u8], pc: u32) -> u32
     ensures { result ≡ last_owner pc (role_in roles.now pc) }
 {
@@ -71,10 +71,10 @@ fn owned_words(row: &RowBody, w: RawInstruction51) -> u32
 fn child_upvalues(row: &RowBody, k: u32) -> u32
     ensures { (words : List ℕ) → result ≡ slice_index (proto_with row.now words).children k }
 {
-    let protos = row.protos;
-    let proto = row.body.proto;
-    match find_child(protos, (proto.row as usize) + 1, proto.depth, k, 0) {
+    let table = row.table;
+    let limits = row.body.limits;
+    match find_child(table, (limits.row as usize) + 1, limits.depth, k, 0) {
         None => 0,
-        Some(Child { row: number, .. }) => Row { protos, number }.field(Column::Upvalues),
+        Some(Child { row: number, .. }) => Row { table, number }.field(Column::Upvalues),
     }
 }

@@ -5,12 +5,12 @@ ghost use Rattle.validator.specs.Steps.{Filled};
 // The image, and the warnings and errors that it came with.
 #[derive(Clone, Copy)]
 pub struct Image<'a> {
-    pub protos: &'a [u8],
+    pub table: &'a [u8],
     pub words: &'a [u8],
     pub roles: &'a [u8],
     pub warnings: u32,
     pub errors: u32,
-    ghost filled: { Filled protos.now words.now roles.now },
+    ghost filled: { Filled table.now words.now roles.now },
 }
 
 impl<'a> Image<'a> {

@@ -2,12 +2,13 @@
 #![tactic(auto)]
 
 pub mod calls;
+mod child_counts;
 mod clean;
 pub mod codes;
 mod fault;
 mod image;
 mod operands;
-mod proto;
-mod prototype;
+mod rows;
+mod state;
 mod walk;
 mod word;

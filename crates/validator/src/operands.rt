@@ -1,12 +1,12 @@
 // What a word of a known opcode names and where it goes.
 ghost use Rattle.std.specs.Prelude.{◌≡◌, ◌+◌, ◌-◌, ◌*◌, ◌<◌, ◌≤◌, [], ◌∷◌, ◌++◌, nat_lt};
-ghost use Rattle.opcodes.specs.Lists.{only};
+ghost use Rattle.base.specs.Lists.{only};
 ghost use Rattle.opcodes.specs.Words.{CLOSURE, field_of, is};
-ghost use Rattle.chunk.specs.Refusals.{max_word_bytes};
-ghost use Rattle.verdict.specs.Operands.{child_bx, constant_bx, constant_in, flag_a, is_skip, register_a, register_in, span_ends, upvalue_b};
+ghost use Rattle.roles_spec.specs.Refusals.{max_word_bytes};
+ghost use Rattle.validator_spec.specs.Operands.{child_bx, constant_bx, constant_in, flag_a, is_skip, register_a, register_in, span_ends, upvalue_b};
 ghost use Rattle.validator.specs.Terms.{Decodes, as_list};
 
-use crate::walk::Location;
+use crate::state::Location;
 use opcodes::{Field, Opcode51, RawInstruction51, index_k, is_k};
 
 // A comparison's flag is below this.
@@ -131,7 +131,7 @@ impl KnownWord {
 }
 
 // The last of so many registers but `implied`, from `start` on, where any are left.
-#[tactic(auto, unfolding(opcodes::specs::Lists::only))]
+#[tactic(auto, unfolding(base::specs::Lists::only))]
 fn window(start: u32, count: u16, implied: u16) -> Option<u32>
     requires { start ≤ 256 }
     ensures { as_list result ≡ only (nat_lt implied count) (start + count - (implied + 1)) }

@@ -1,107 +1,177 @@
-// What the walk carries, and how a diagnostic is added to it.
-ghost use Rattle.std.specs.Prelude.{◌≡◌, ◌<◌, [], ◌∷◌, pos};
-ghost use Rattle.chunk.specs.Refusals.{max_rows};
-ghost use Rattle.verdict.specs.Diagnostics.{diagnostic, not_below, tested_step};
-ghost use Rattle.validator.specs.Steps.{take_step, emit_all, emitted, emitted_if, moved_to, tested_of};
-ghost use Rattle.validator.specs.Terms.{code_number, as_list};
+// The walk: a prototype's own diagnostics and then its children's, after luad's `validate_proto`.
+ghost use Rattle.std.specs.Prelude.{◌≡◌, ◌+◌, ◌*◌, ◌/◌, ◌<◌, ◌≤◌, [], ◌∷◌, Option, map, length};
+ghost use mathlib.Core.List.{foldl};
+ghost use Rattle.base.specs.Bytes.{u32s};
+ghost use Rattle.base.specs.Lists.{up_from};
+ghost use Rattle.roles_spec.specs.Refusals.{max_word_bytes};
+ghost use Rattle.roles_spec.specs.Roles.{role_bytes};
+ghost use Rattle.roles_spec.specs.Table.{Proto, proto_in, row_at, row_bytes};
+ghost use Rattle.validator_spec.specs.Diagnostics.{diagnostics_at, proto_steps, stack_diagnostics, tested_step};
+ghost use Rattle.validator.specs.Rows.{proto_of_row};
+ghost use Rattle.validator.specs.Terms.{Describes, HasLimits, fault_diagnostics, row_limits};
+ghost use Rattle.validator.specs.Steps.{Begins, take_step, emit_all, goes_on, own_steps, step_row, walk_to};
 
-use crate::calls::DIAGNOSTIC_BYTES;
+use crate::clean::next_suspect;
 use crate::codes::Code;
-use opcodes::bytes::write_record;
+use crate::fault::{Lua51RoleFault, find_fault};
+use crate::rows::{Body, CountedImage, RowBody, RowLimits};
+use crate::state::{Location, WalkState};
+use crate::word::validate_word;
+use base::bytes::MINUS_ONE;
+use roles::role::ROLE_BYTES;
+use roles::table::{Column, Row};
 
-// The next row and the index of its first word; how many diagnostics were found, and how many of them end the walk at a test; whether one is an
-// error; whether a test ended the walk. (The fields fill the struct: docs/DECISIONS.md says what its padding cost.)
-// The state is a value that methods take and hand back beside the lent buffer, document 01's form; `limit` is in it for the same reason.
-#[derive(Clone, Copy)]
-pub struct WalkState {
-    pub row: usize,
-    pub first: usize,
-    pub count: u32,
-    pub stop: u16,
-    pub error: bool,
-    pub limit: bool,
+// A larger stack is a diagnostic.
+const USUAL_STACK: u32 = 250;
+
+// The next row and all rows below it. (That it is there, and where its words begin, are clauses and no ghost fields: they tie the table to a walk state,
+// which is a value that functions take and hand back.)
+#[cycle(walk)]
+pub fn validate_proto(walk: WalkState, counted: &CountedImage, out: &mut [u8]) -> WalkState
+    requires there { walk.row < length counted.now.table.now / row_bytes }
+    requires begins { Begins counted.now.table.now walk }
+    ensures { (result, out.new) ≡ walk_to counted.now.table.now counted.now.words.now (row_at counted.now.table.now walk.row).depth (step_row counted.now.table.now counted.now.words.now (walk, out.old)) }
+{
+    let limits = counted.row_limits(walk.row);
+    let own = validate_row(walk, counted, out, limits);
+    if own.limit {
+        return own;
+    }
+    let next = walk.first + limits.words as usize;
+    validate_children(own.moved(next), counted, out, limits.depth)
 }
 
-// Where a diagnostic stands: the row of a prototype and a pc in it, by the bits of its fields. (That of a stack is of no word: its pc is -1, document 01's
-// place for the prototype as a whole, which an Option would have to be made again in each record.)
-#[derive(Clone, Copy)]
-pub struct Location {
-    pub row: u32,
-    pub pc: u32,
-}
-
-impl WalkState {
-    // The test of the limit.
-    #[tactic(auto, unfolding(crate::specs::Steps::tested_of))]
-    pub fn tested(mut self) -> WalkState
-        ensures { result ≡ tested_of self }
-    {
-        if self.stop as u32 <= self.count {
-            self.limit = true;
-        }
-        self
-    }
-
-    // On to the next row, whose words begin at `first`.
-    #[tactic(auto, unfolding(crate::specs::Steps::moved_to))]
-    pub(crate) fn moved(mut self, first: usize) -> WalkState
-        requires { self.row < max_rows }
-        ensures { result ≡ moved_to first self }
-    {
-        self.row += 1;
-        self.first = first;
-        self
-    }
-
-    // Adds a diagnostic, its value given by its bits: it is counted, and written where its record fits. (It is counted modulo 2^32, which the
-    // limit keeps far away.) Here and below place, code and value are parameters: two of the four methods have the first two before there is a value.
-    #[tactic(auto, unfolding(crate::specs::Steps::emitted))]
-    pub fn emit(mut self, out: &mut [u8], at: Location, code: Code, value: u32) -> WalkState
-        ensures { (result, out.new) ≡ emitted at.row at.pc (code_number code) value (self, out.old) }
-    {
-        let record = [at.row, at.pc, code.number(), value];
-        write_record(out, DIAGNOSTIC_BYTES * (self.count as usize), &record);
-        self.count = self.count.wrapping_add(1);
-        if code != Code::Stack001 {
-            self.error = true;
-        }
-        self
-    }
-
-    // Adds the diagnostic of a word after a test.
-    pub fn report(self, out: &mut [u8], at: Location, code: Code, value: u32) -> WalkState
-        ensures { (result, out.new) ≡ take_step at.row (self, out.old) (tested_step (diagnostic at.pc (code_number code) (pos value) ∷ [])) }
-    {
-        let walk = self.tested();
+// The rows from the next one on that are deeper than this depth: the children of a prototype, each with the rows below it. (A `while`: each child moves
+// the walk past all rows below it, so that no count of rows is at hand.)
+#[cycle(walk)]
+fn validate_children(
+    mut walk: WalkState,
+    counted: &CountedImage,
+    out: &mut [u8],
+    depth: u32,
+) -> WalkState
+    requires within { walk.row ≤ length counted.now.table.now / row_bytes }
+    requires begins { Begins counted.now.table.now walk }
+    ensures { (result, out.new) ≡ walk_to counted.now.table.now counted.now.words.now depth (walk, out.old) }
+{
+    while goes_on(walk, counted, depth) {
+        walk = walk.tested();
         if walk.limit {
             return walk;
         }
-        walk.emit(out, at, code, value)
-    }
-
-    // Adds a diagnostic where it has a value.
-    #[tactic(auto, unfolding(crate::specs::Steps::emitted_if))]
-    pub fn emit_if(self, out: &mut [u8], at: Location, code: Code, value: Option<u32>) -> WalkState
-        ensures { (result, out.new) ≡ emitted_if at.row at.pc (code_number code) value (self, out.old) }
-    {
-        match value {
-            None => self,
-            Some(value) => self.emit(out, at, code, value),
+        walk = validate_proto(walk, counted, out);
+        if walk.limit {
+            return walk;
         }
     }
+    walk
+}
 
-    // Adds the diagnostic of an operand, where the word names it and it is not below its limit.
-    pub fn check(
-        self,
-        out: &mut [u8],
-        at: Location,
-        code: Code,
-        operand: Option<u32>,
-        limit: u32,
-    ) -> WalkState
-        ensures { (result, out.new) ≡ emit_all at.row (not_below at.pc (code_number code) limit (as_list operand)) (self, out.old) }
-    {
-        let over = operand.filter(|value| limit <= *value);
-        self.emit_if(out, at, code, over)
+// Whether the walk goes on with a row deeper than this depth.
+#[tactic(auto, unfolding(crate::specs::Steps::goes_on, roles_spec::specs::Table::row_at))]
+fn goes_on(walk: WalkState, counted: &CountedImage, depth: u32) -> bool
+    ensures { result ≡ goes_on counted.now.table.now depth walk }
+{
+    let table = counted.table;
+    let number = walk.row;
+    !walk.limit && number < counted.rows() && depth < Row { table, number }.field(Column::Depth)
+}
+
+// The prototype in the next row, with its part of the words and of the roles.
+fn validate_row(
+    walk: WalkState,
+    counted: &CountedImage,
+    out: &mut [u8],
+    limits: RowLimits,
+) -> WalkState
+    requires there { walk.row < length counted.now.table.now / row_bytes }
+    requires begins { Begins counted.now.table.now walk }
+    requires limits { limits ≡ row_limits counted.now.table.now walk.row }
+    requires room { (4 * (walk.first + limits.words) ≤ length counted.now.words.now) × (role_bytes * (walk.first + limits.words) ≤ length counted.now.roles.now) × (length counted.now.words.now ≤ max_word_bytes) }
+    ensures { (result, out.new) ≡ own_steps counted.now.table.now counted.now.words.now (walk, out.old) }
+{
+    let first = walk.first;
+    let next = first + limits.words as usize;
+    let row = RowBody {
+        table: counted.table,
+        body: Body {
+            limits,
+            code: &counted.words[4 * first..4 * next],
+            roles: &counted.roles[ROLE_BYTES * first..ROLE_BYTES * next],
+        },
+    };
+    validate_own(walk, out, &row)
+}
+
+// The prototype's own diagnostics.
+fn validate_own(walk: WalkState, out: &mut [u8], row: &RowBody) -> WalkState
+    ensures { (result, out.new) ≡ foldl (take_step row.now.body.limits.row) (walk, out.old) (proto_steps (proto_of_row row.now)) }
+{
+    let walk = walk.tested();
+    if walk.limit {
+        return walk;
     }
+    let walk = validate_fault(walk, out, row.body.limits.row, find_fault(row));
+    if walk.limit {
+        return walk;
+    }
+    let walk = validate_stack(walk, out, &row.body.limits);
+    validate_words(walk, out, &row.body)
+}
+
+// The diagnostic of a truncated owner, if there is one.
+fn validate_fault(
+    walk: WalkState,
+    out: &mut [u8],
+    row: u32,
+    fault: Option<Lua51RoleFault>,
+) -> WalkState
+    ensures { (result, out.new) ≡ foldl (take_step row) (walk, out.old) (map (λ d. tested_step (d ∷ [])) (fault_diagnostics fault)) }
+{
+    let Some(fault) = fault else {
+        return walk;
+    };
+    match fault {
+        Lua51RoleFault::TruncatedClosure {
+            owner_pc: pc,
+            declared,
+        } => { walk.report(out, Location { row, pc }, Code::Closure001, declared) }
+        Lua51RoleFault::TruncatedSetlist { owner_pc: pc } => {
+            walk.report(out, Location { row, pc }, Code::Setlist001, 0)
+        }
+    }
+}
+
+// The warning of a large stack, without a test.
+fn validate_stack(walk: WalkState, out: &mut [u8], limits: &RowLimits) -> WalkState
+    ensures { (p : Proto) → HasLimits p limits.now → (result, out.new) ≡ emit_all limits.now.row (stack_diagnostics p) (walk, out.old) }
+{
+    let at = Location {
+        row: limits.row,
+        pc: MINUS_ONE,
+    };
+    let large = (USUAL_STACK < limits.stack).then_some(limits.stack);
+    walk.emit_if(out, at, Code::Stack001, large)
+}
+
+// The words, each after a test. The test before a word that has no diagnostics gives what the last one gave, so these are passed over after one.
+// (A `while`: `next_suspect` finds the next pc.)
+fn validate_words(mut walk: WalkState, out: &mut [u8], body: &Body) -> WalkState
+    ensures { (p : Proto) → Describes p body.now.limits body.now.code.now body.now.roles.now → (result, out.new) ≡ foldl (take_step body.now.limits.row) (walk, out.old) (map (λ pc. tested_step (diagnostics_at p pc)) (up_from 0 (length body.now.code.now / 4))) }
+{
+    let n = body.code.len() / 4;
+    let mut pc = 0;
+    while pc < n {
+        walk = walk.tested();
+        if walk.limit {
+            return walk;
+        }
+        pc = next_suspect(body, pc);
+        if n <= pc {
+            return walk;
+        }
+        walk = validate_word(walk, out, body, pc);
+        pc += 1;
+    }
+    walk
 }

@@ -1,21 +1,21 @@
 // The diagnostics of one executable word, in the order of document 01's table.
 ghost use Rattle.std.specs.Prelude.{◌≡◌, ◌+◌, ◌*◌, ◌/◌, ◌<◌, not, ◌&&◌, T, [], ◌∷◌, length, pos, ◌-ℤ◌};
 ghost use mathlib.Core.List.{flat_map, flatten};
-ghost use Rattle.opcodes.specs.Lists.{only, up_from};
+ghost use Rattle.base.specs.Lists.{only, up_from};
 ghost use Rattle.opcodes.specs.Words.{CLOSURE, is};
-ghost use Rattle.chunk.specs.Roles.{Executable, binding_words, is_executable, role_in, word_at};
-ghost use Rattle.chunk.specs.Table.{Proto};
-ghost use Rattle.verdict.specs.Diagnostics.{binding_diagnostics, diagnostic, jump_diagnostics, not_below, opcode_value, operand_diagnostics, skip_diagnostics, target_diagnostics, word_diagnostics};
-ghost use Rattle.verdict.specs.Operands.{captured_register, captured_upvalue, is_binding, is_skip, skip_target};
-ghost use Rattle.validator.specs.Terms.{Describes, Limits, Stands};
+ghost use Rattle.roles_spec.specs.Roles.{Executable, binding_words, is_executable, role_in, word_at};
+ghost use Rattle.roles_spec.specs.Table.{Proto};
+ghost use Rattle.validator_spec.specs.Diagnostics.{binding_diagnostics, diagnostic, jump_diagnostics, not_below, opcode_value, operand_diagnostics, skip_diagnostics, target_diagnostics, word_diagnostics};
+ghost use Rattle.validator_spec.specs.Operands.{captured_register, captured_upvalue, is_binding, is_skip, skip_target};
+ghost use Rattle.validator.specs.Terms.{Describes, HasLimits, Stands};
 ghost use Rattle.validator.specs.Steps.{emit_all};
 
 use crate::codes::Code;
 use crate::operands::{FLAG_LIMIT, KnownWord};
-use crate::prototype::{Body, Prototype};
-use crate::walk::{Location, WalkState};
+use crate::rows::{Body, RowLimits};
+use crate::state::{Location, WalkState};
+use base::bytes::{MINUS_ONE, read_u32};
 use opcodes::Field::{B, C};
-use opcodes::bytes::{MINUS_ONE, read_u32};
 use opcodes::{OpMode51, Opcode51, OpcodeField, RawInstruction51};
 use roles::role::role_at;
 
@@ -25,10 +25,10 @@ pub const OFFSET_SBX: u32 = RawInstruction51::OFFSET_SBX as u32;
 // The word at pc: of an unknown opcode, nothing but that.
 pub fn validate_word(walk: WalkState, out: &mut [u8], body: &Body, pc: usize) -> WalkState
     requires { pc < length body.now.code.now / 4 }
-    ensures { (p : Proto) → Describes p body.now.proto body.now.code.now body.now.roles.now → Executable p pc → (result, out.new) ≡ emit_all body.now.proto.row (word_diagnostics p pc (word_at p pc)) (walk, out.old) }
+    ensures { (p : Proto) → Describes p body.now.limits body.now.code.now body.now.roles.now → Executable p pc → (result, out.new) ≡ emit_all body.now.limits.row (word_diagnostics p pc (word_at p pc)) (walk, out.old) }
 {
     let at = Location {
-        row: body.proto.row,
+        row: body.limits.row,
         pc: pc as u32,
     };
     let w = RawInstruction51::decode(read_u32(body.code, 4 * pc));
@@ -37,7 +37,7 @@ pub fn validate_word(walk: WalkState, out: &mut [u8], body: &Body, pc: usize) ->
     };
     let word = KnownWord { at, op, w };
     let walk = validate_flow(walk, out, body, &word);
-    let walk = validate_operands(walk, out, &body.proto, &word);
+    let walk = validate_operands(walk, out, &body.limits, &word);
     if word.is_closure() {
         return validate_bindings(walk, out, body, pc);
     }
@@ -46,7 +46,7 @@ pub fn validate_word(walk: WalkState, out: &mut [u8], body: &Body, pc: usize) ->
 
 // Where it goes: codes 5 and 6.
 fn validate_flow(walk: WalkState, out: &mut [u8], body: &Body, word: &KnownWord) -> WalkState
-    ensures { (p : Proto) → Stands p body.now.proto body.now.roles.now → (result, out.new) ≡ emit_all word.now.at.row (flatten (jump_diagnostics p word.now.at.pc word.now.w.raw ∷ skip_diagnostics p word.now.at.pc word.now.w.raw ∷ [])) (walk, out.old) }
+    ensures { (p : Proto) → Stands p body.now.limits body.now.roles.now → (result, out.new) ≡ emit_all word.now.at.row (flatten (jump_diagnostics p word.now.at.pc word.now.w.raw ∷ skip_diagnostics p word.now.at.pc word.now.w.raw ∷ [])) (walk, out.old) }
 {
     let walk = validate_jump(walk, out, body, word);
     let hit = skips_to_companion(body.roles, word);
@@ -55,7 +55,7 @@ fn validate_flow(walk: WalkState, out: &mut [u8], body: &Body, word: &KnownWord)
 
 // The target of a word that has one.
 fn validate_jump(walk: WalkState, out: &mut [u8], body: &Body, word: &KnownWord) -> WalkState
-    ensures { (p : Proto) → Stands p body.now.proto body.now.roles.now → (result, out.new) ≡ emit_all word.now.at.row (jump_diagnostics p word.now.at.pc word.now.w.raw) (walk, out.old) }
+    ensures { (p : Proto) → Stands p body.now.limits body.now.roles.now → (result, out.new) ≡ emit_all word.now.at.row (jump_diagnostics p word.now.at.pc word.now.w.raw) (walk, out.old) }
 {
     let at = word.at;
     match word.op.mode() {
@@ -72,13 +72,13 @@ fn validate_target(
     at: Location,
     sum: u32,
 ) -> WalkState
-    ensures { (p : Proto) → Stands p body.now.proto body.now.roles.now → (result, out.new) ≡ emit_all at.row (target_diagnostics p at.pc (pos sum -ℤ pos 131071)) (walk, out.old) }
+    ensures { (p : Proto) → Stands p body.now.limits body.now.roles.now → (result, out.new) ≡ emit_all at.row (target_diagnostics p at.pc (pos sum -ℤ pos 131071)) (walk, out.old) }
 {
     if sum < OFFSET_SBX {
         return walk.emit(out, at, Code::Jmp001, MINUS_ONE - (OFFSET_SBX - 1 - sum));
     }
     let target = sum - OFFSET_SBX;
-    if body.proto.words <= target {
+    if body.limits.words <= target {
         return walk.emit(out, at, Code::Jmp001, target);
     }
     let hit = is_companion(body.roles, target as usize);
@@ -103,17 +103,17 @@ pub fn is_companion(roles: &[u8], pc: usize) -> bool
 fn validate_operands(
     walk: WalkState,
     out: &mut [u8],
-    proto: &Prototype,
+    limits: &RowLimits,
     word: &KnownWord,
 ) -> WalkState
-    ensures { (p : Proto) → Limits p proto.now → (result, out.new) ≡ emit_all word.now.at.row (operand_diagnostics p word.now.at.pc word.now.w.raw) (walk, out.old) }
+    ensures { (p : Proto) → HasLimits p limits.now → (result, out.new) ≡ emit_all word.now.at.row (operand_diagnostics p word.now.at.pc word.now.w.raw) (walk, out.old) }
 {
     let at = word.at;
-    let constants = proto.constants;
-    let stack = proto.stack;
+    let constants = limits.constants;
+    let stack = limits.stack;
     let (first, second) = word.span_ends();
     let walk = walk.check(out, at, Code::Const003, word.constant_bx(), constants);
-    let walk = walk.check(out, at, Code::Upval001, word.upvalue_b(), proto.upvalues);
+    let walk = walk.check(out, at, Code::Upval001, word.upvalue_b(), limits.upvalues);
     let walk = walk.check(out, at, Code::Bool001, word.flag_a(), FLAG_LIMIT);
     let walk = walk.check(out, at, Code::Reg001, word.register_a(), stack);
     let walk = walk.check(out, at, Code::RegSpan001, first, stack);
@@ -122,7 +122,7 @@ fn validate_operands(
     let walk = walk.check(out, at, Code::Reg003, word.register_in(C), stack);
     let walk = walk.check(out, at, Code::Const004, word.constant_in(B), constants);
     let walk = walk.check(out, at, Code::Const005, word.constant_in(C), constants);
-    walk.check(out, at, Code::Proto002, word.child_bx(), proto.children)
+    walk.check(out, at, Code::Proto002, word.child_bx(), limits.children)
 }
 
 // The companions of the CLOSURE at pc, each at its own pc. (The roles alone say where they end, so this is a `while`: a `for` over the words would test for
@@ -130,16 +130,16 @@ fn validate_operands(
 #[tactic(auto, using(crate::proofs::BindingLaws::has_record))]
 fn validate_bindings(mut walk: WalkState, out: &mut [u8], body: &Body, pc: usize) -> WalkState
     requires { pc < length body.now.code.now / 4 }
-    ensures { (p : Proto) → Describes p body.now.proto body.now.code.now body.now.roles.now → Executable p pc → T (is (word_at p pc) (CLOSURE ∷ [])) → (result, out.new) ≡ emit_all body.now.proto.row (flat_map (binding_diagnostics p) (up_from (pc + 1) (binding_words p pc))) (walk, out.old) }
+    ensures { (p : Proto) → Describes p body.now.limits body.now.code.now body.now.roles.now → Executable p pc → T (is (word_at p pc) (CLOSURE ∷ [])) → (result, out.new) ≡ emit_all body.now.limits.row (flat_map (binding_diagnostics p) (up_from (pc + 1) (binding_words p pc))) (walk, out.old) }
 {
     let mut next = pc + 1;
     while is_companion(body.roles, next) {
         let word = read_u32(body.code, 4 * next);
         let at = Location {
-            row: body.proto.row,
+            row: body.limits.row,
             pc: next as u32,
         };
-        walk = validate_binding(walk, out, &body.proto, at, word);
+        walk = validate_binding(walk, out, &body.limits, at, word);
         next += 1;
     }
     walk
@@ -149,11 +149,11 @@ fn validate_bindings(mut walk: WalkState, out: &mut [u8], body: &Body, pc: usize
 fn validate_binding(
     walk: WalkState,
     out: &mut [u8],
-    proto: &Prototype,
+    limits: &RowLimits,
     at: Location,
     word: u32,
 ) -> WalkState
-    ensures { (result, out.new) ≡ emit_all at.row (flatten (only (not (is_binding word)) (diagnostic at.pc 17 (opcode_value word)) ∷ not_below at.pc 12 proto.now.stack (captured_register word) ∷ not_below at.pc 8 proto.now.upvalues (captured_upvalue word) ∷ [])) (walk, out.old) }
+    ensures { (result, out.new) ≡ emit_all at.row (flatten (only (not (is_binding word)) (diagnostic at.pc 17 (opcode_value word)) ∷ not_below at.pc 12 limits.now.stack (captured_register word) ∷ not_below at.pc 8 limits.now.upvalues (captured_upvalue word) ∷ [])) (walk, out.old) }
 {
     let w = RawInstruction51::decode(word);
     match w.opcode {
@@ -162,14 +162,14 @@ fn validate_binding(
             at,
             Code::Reg002,
             Some(w.b as u32),
-            proto.stack,
+            limits.stack,
         ),
         OpcodeField::Known(Opcode51::GetUpval) => walk.check(
             out,
             at,
             Code::Upval001,
             Some(w.b as u32),
-            proto.upvalues,
+            limits.upvalues,
         ),
         OpcodeField::Known(_) => walk.emit(out, at, Code::Closure002, w.opcode_num as u32),
         OpcodeField::Unknown(_) => walk.emit(out, at, Code::Closure002, MINUS_ONE),

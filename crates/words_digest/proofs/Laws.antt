@@ -1,10 +1,10 @@
 -- The digest of one word more. Assumes nothing.
 use Rattle.std.proofs.Common.{◌≡◌, ℕ, ◌+◌, ◌*◌, ◌/◌, ◌%◌, ◌^◌, ◌<◌, ◌≤◌, ◌∙◌, List, ◌++◌, length, take, drop, add-one, add-zero, arith, ap, take-suc}
 use mathlib.Core.List.{foldl-append}
-use Rattle.opcodes.specs.Bytes.{u32_at, u32s}
+use Rattle.base.specs.Bytes.{u32_at, u32s}
 use Rattle.opcodes.specs.Words.{decoded}
-use Rattle.opcodes.proofs.ByteLaws.{get_d_u32s, length_u32s}
-use Rattle.opcodes.proofs.PartLaws.{next_part, u32_at_part}
+use Rattle.base.proofs.ByteLaws.{get_d_u32s, length_u32s}
+use Rattle.base.proofs.PartLaws.{next_part, u32_at_part}
 use Rattle.words_digest.specs.Digest.{digest, weight}
 
 pub digest_next : (s : List ℕ) (i : ℕ) → i < length s / 4 → digest (take (i + 1) (u32s s)) ≡ (digest (take i (u32s s)) + weight (decoded (u32_at s (4 * i)))) % 2 ^ 64

@@ -2,7 +2,7 @@
 -- Assumes nothing: these are definitions.
 use Rattle.std.specs.Prelude.{ℕ, ◌+◌, ◌*◌, ◌%◌, ◌^◌, cond, List}
 use mathlib.Core.List.{foldl}
-use Rattle.opcodes.specs.Bytes.{i32_bits}
+use Rattle.base.specs.Bytes.{i32_bits}
 use Rattle.opcodes.specs.Words.{a_is_register, decoded}
 use Rattle.opcodes.specs.declared.OpcodeField.{OpcodeField}
 use Rattle.opcodes.specs.declared.OpcodeField.TheVariants.{Known, Unknown}

@@ -2,10 +2,10 @@
 #![tactic(auto)]
 
 ghost use Rattle.std.specs.Prelude.{◌≡◌, ◌<◌};
-ghost use Rattle.opcodes.specs.Bytes.{u32s};
+ghost use Rattle.base.specs.Bytes.{u32s};
 ghost use Rattle.words_digest.specs.Digest.{digest, kind_weight, opcode_weight, unknown_number, weight};
 
-use opcodes::bytes::{i32_bits, read_u32};
+use base::bytes::{i32_bits, read_u32};
 use opcodes::{OpcodeField, RawInstruction51};
 
 // The digest of the words, four bytes each. Bytes past the last whole word count for nothing.

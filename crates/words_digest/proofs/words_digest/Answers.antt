@@ -1,9 +1,9 @@
 -- A turn adds the weight of one word, which is what the digest of one word more adds.
 use Rattle.std.proofs.Common.{◌≡◌, ◌+◌, ◌*◌, ◌≤◌, [], ◌∷◌, ◌++◌, length, refl, ap, sym, ◌∙◌, arith, length-append, length-drop, take_all}
 use Rattle.std.specs.Slice.Iter.{chunks_exact_rest, chunks_exact_size}
-use Rattle.opcodes.specs.Bytes.{u32s}
+use Rattle.base.specs.Bytes.{u32s}
 use Rattle.opcodes.specs.Words.{decoded}
-use Rattle.opcodes.proofs.ByteLaws.{length_u32s}
+use Rattle.base.proofs.ByteLaws.{length_u32s}
 use Rattle.words_digest.specs.Digest.{digest, weight}
 use Rattle.words_digest.proofs.Laws.{cut, digest_next}
 use Rattle.words_digest.proofs.words_digest.Goals as goal

@@ -1,6 +1,6 @@
 -- After i turns the sum is the digest of the first i words, and the bytes after these are left.
 use Rattle.std.proofs.Common.{◌≡◌, ◌*◌, ◌≤◌, length, take, drop}
-use Rattle.opcodes.specs.Bytes.{u32s}
+use Rattle.base.specs.Bytes.{u32s}
 use Rattle.words_digest.specs.Digest.{digest}
 use Rattle.words_digest.proofs.words_digest.Given as goal
 

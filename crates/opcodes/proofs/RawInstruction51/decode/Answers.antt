@@ -7,7 +7,7 @@ use lib.IntN.{ℤ, pos, ◌-ℤ◌}
 use mathlib.Core.Path.{ap, ◌∙◌}
 use mir.Val.{to_z, of_z}
 use Rattle.opcodes.specs.Words.{B, C, decoded}
-use Rattle.opcodes.proofs.Signed.{sub_fits}
+use Rattle.base.proofs.SignedLaws.{sub_fits}
 use Rattle.opcodes.proofs.RawInstruction51.decode.Goals as goal
 
 pub returns : goal.returns

@@ -1,6 +1,6 @@
 -- The records of the child's part are those of the whole buffer.
 use Rattle.std.proofs.Common.{◌+◌, ◌-◌, ◌*◌, arith}
-use Rattle.chunk.specs.Bindings.{binding_bytes}
+use Rattle.roles_spec.specs.Bindings.{binding_bytes}
 use Rattle.roles.proofs.BindingStepLaws.{child_bound}
 use Rattle.roles.proofs.bindings.bind_child.Goals as goal
 

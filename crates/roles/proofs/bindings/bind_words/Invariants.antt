@@ -1,6 +1,6 @@
 -- After j turns the first j words have set their records.
 use Rattle.std.proofs.Common.{◌≡◌, ◌+◌, ◌≤◌}
-use Rattle.opcodes.specs.Bytes.{u32s}
+use Rattle.base.specs.Bytes.{u32s}
 use Rattle.roles.specs.BindingSteps.{bound_from}
 use Rattle.roles.proofs.bindings.bind_words.Given as goal
 

@@ -1,7 +1,7 @@
 -- After i turns the first i records bind nothing.
 use Rattle.std.proofs.Common.{◌≡◌, ◌≤◌, replicate}
-use Rattle.opcodes.specs.Bytes.{overwrite}
-use Rattle.chunk.specs.Bindings.{binding_records, unbound}
+use Rattle.base.specs.Bytes.{overwrite}
+use Rattle.roles_spec.specs.Bindings.{binding_records, unbound}
 use Rattle.roles.proofs.bindings.unbind.Given as goal
 
 abbrev pub invariant-loop-i : goal.invariant-loop-i

@@ -6,8 +6,8 @@ use Rattle.roles.proofs.discovery.discover_roles_lua51.Given as goal
 
 abbrev pub invariant-loop-pc : goal.invariant-loop-pc
 invariant-loop-pc l = record {
-  roles_so_far : RolePass l.initial.children.parent.protos.now l.initial.children.parent.number l.code l.initial.out l.out l.pc;
-  bound_so_far : BindPass l.initial.children.parent.protos.now l.initial.children.parent.number l.code l.initial.bindings l.bindings l.pc;
+  roles_so_far : RolePass l.initial.children.parent.table.now l.initial.children.parent.number l.code l.initial.out l.out l.pc;
+  bound_so_far : BindPass l.initial.children.parent.table.now l.initial.children.parent.number l.code l.initial.bindings l.bindings l.pc;
   of_row : l.children.parent ≡ l.initial.children.parent;
 }
 

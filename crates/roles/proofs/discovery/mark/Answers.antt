@@ -1,6 +1,6 @@
 -- The companions that exist: as many as there is room for.
 use Rattle.std.proofs.Common.{◌/◌, length, refl}
-use Rattle.chunk.specs.Roles.{role_bytes}
+use Rattle.roles_spec.specs.Roles.{role_bytes}
 use Rattle.roles.proofs.MarkLaws.{marked_none, marked_bindings, marked_extra}
 use Rattle.roles.proofs.discovery.mark.Goals as goal
 

@@ -1,6 +1,6 @@
 -- Each turn marks one more binding word.
 use Rattle.std.proofs.Common.{◌≡◌, arith}
-use Rattle.chunk.proofs.RoleRecordLaws.{records_none, binding_next}
+use Rattle.roles_spec.proofs.RoleRecordLaws.{records_none, binding_next}
 use Rattle.roles.proofs.discovery.mark_bindings.Goals as goal
 
 pub loop-j-init : goal.loop-j-init

@@ -1,8 +1,8 @@
 -- After j turns the first j binding words are marked.
 use Rattle.std.proofs.Common.{◌≡◌, ◌≤◌}
-use Rattle.opcodes.specs.Bytes.{overwrite}
-use Rattle.opcodes.specs.Lists.{tabulate}
-use Rattle.chunk.specs.Roles.{ClosureBinding, records_of}
+use Rattle.base.specs.Bytes.{overwrite}
+use Rattle.base.specs.Lists.{tabulate}
+use Rattle.roles_spec.specs.Roles.{ClosureBinding, records_of}
 use Rattle.roles.proofs.discovery.mark_bindings.Given as goal
 
 abbrev pub invariant-loop-j : goal.invariant-loop-j

@@ -1,5 +1,5 @@
 -- An image that is not refused needs 8 bytes for each of its words.
-use Rattle.chunk.specs.Refusals.{refuse}
+use Rattle.roles_spec.specs.Refusals.{refuse}
 use Rattle.roles.specs.Terms.{refused_of, given_refusal}
 use Rattle.roles.proofs.ImageCheckLaws.{too_short_lem, fits_roles}
 use Rattle.roles.proofs.refusals.check_roles.Goals as goal

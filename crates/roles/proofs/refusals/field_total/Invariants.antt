@@ -4,4 +4,4 @@ use Rattle.roles.proofs.CountLaws.{TotalPass}
 use Rattle.roles.proofs.refusals.field_total.Given as goal
 
 abbrev pub invariant-loop-number : goal.invariant-loop-number
-invariant-loop-number l = TotalPass l.protos (column_index l.column) l.total l.number
+invariant-loop-number l = TotalPass l.table (column_index l.column) l.total l.number

@@ -9,31 +9,31 @@ use Rattle.validator.proofs.calls.validate_chunk_lua51.Goals as goal
 pub returns-in_err-write_roles : goal.returns-in_err-write_roles
 returns-in_err-write_roles c =
     let p = err_from_is_err_and c.from_residual.result c.from_residual.ensures.1 in
-    let i = image_of c.args.protos.now c.args.words.now c.args.warnings c.args.errors in
+    let i = image_of c.args.table.now c.args.words.now c.args.warnings c.args.errors in
     let w = c.write_roles.ensures in
     let r = refused_call i c.args.roles.now _ w.result_value _ c.args.diagnostics.now c.in_err-write_roles.was in
     rw (p.1, p.2) (record { result_value = r.0; roles_after = w.roles_after; diagnostics_after = r.1; guarantee = guaranteed i _ _ _ r.0 })
 
 pub invariant_of-image : goal.invariant_of-image
 invariant_of-image c =
-    let i = image_of c.args.protos.now c.args.words.now c.args.warnings c.args.errors in
+    let i = image_of c.args.table.now c.args.words.now c.args.warnings c.args.errors in
     let w = c.write_roles.ensures in
-    record { filled = subst⁻¹ (Filled c.args.protos.now c.args.words.now) w.roles_after (filled_in _ _ c.args.roles.now (not_refused i c.args.roles.now _ w.result_value _ c.in_ok-write_roles.was)) }
+    record { filled = subst⁻¹ (Filled c.args.table.now c.args.words.now) w.roles_after (filled_in _ _ c.args.roles.now (not_refused i c.args.roles.now _ w.result_value _ c.in_ok-write_roles.was)) }
 
 pub invariant_of-image-2 : goal.invariant_of-image-2
 invariant_of-image-2 c =
-    let i = image_of c.args.protos.now c.args.words.now c.args.warnings c.args.errors in
+    let i = image_of c.args.table.now c.args.words.now c.args.warnings c.args.errors in
     let w = c.write_roles.ensures in
-    record { filled = subst⁻¹ (Filled c.args.protos.now c.args.words.now) w.roles_after (filled_in _ _ c.args.roles.now (not_refused i c.args.roles.now _ w.result_value _ c.in_ok-write_roles.was)) }
+    record { filled = subst⁻¹ (Filled c.args.table.now c.args.words.now) w.roles_after (filled_in _ _ c.args.roles.now (not_refused i c.args.roles.now _ w.result_value _ c.in_ok-write_roles.was)) }
 
 pub validate_once-requires : goal.validate_once-requires
 validate_once-requires c =
-    let i = image_of c.args.protos.now c.args.words.now c.args.warnings c.args.errors in
+    let i = image_of c.args.table.now c.args.words.now c.args.warnings c.args.errors in
     most_fit i c.args.roles.now _ c.write_roles.ensures.result_value _ _ c.in_ok-write_roles.was c.if-diagnostics-ge-MOST_DIAGNOSTICS.true
 
 pub returns-then-diagnostics-ge-MOST_DIAGNOSTICS : goal.returns-then-diagnostics-ge-MOST_DIAGNOSTICS
 returns-then-diagnostics-ge-MOST_DIAGNOSTICS c =
-    let i = image_of c.args.protos.now c.args.words.now c.args.warnings c.args.errors in
+    let i = image_of c.args.table.now c.args.words.now c.args.warnings c.args.errors in
     let records = c.args.roles.now in
     let w = c.write_roles.ensures in
     let once = c.validate_once.ensures in
@@ -43,7 +43,7 @@ returns-then-diagnostics-ge-MOST_DIAGNOSTICS c =
 
 pub returns : goal.returns
 returns c =
-    let i = image_of c.args.protos.now c.args.words.now c.args.warnings c.args.errors in
+    let i = image_of c.args.table.now c.args.words.now c.args.warnings c.args.errors in
     let w = c.write_roles.ensures in
     let counted = c.validate_counted.ensures in
     let r =

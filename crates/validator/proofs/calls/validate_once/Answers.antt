@@ -1,6 +1,6 @@
 -- The diagnostics fit.
 use Rattle.validator.proofs.CheckLaws.{judged}
-use Rattle.validator.proofs.WalkedLaws.{walked_fits}
+use Rattle.validator.proofs.ImageWalkLaws.{walked_fits}
 use Rattle.validator.proofs.calls.validate_once.Goals as goal
 
 pub returns : goal.returns

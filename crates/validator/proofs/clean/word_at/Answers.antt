@@ -1,7 +1,7 @@
 -- The four bytes of a part are those of the word.
 use Rattle.std.proofs.Common.{◌+◌, ◌-◌, ◌*◌, ap, ◌∙◌, add-zero, arith}
-use Rattle.opcodes.specs.Bytes.{u32_at}
-use Rattle.opcodes.proofs.PartLaws.{u32_at_part}
+use Rattle.base.specs.Bytes.{u32_at}
+use Rattle.base.proofs.PartLaws.{u32_at_part}
 use Rattle.validator.proofs.clean.word_at.Goals as goal
 
 pub returns : goal.returns

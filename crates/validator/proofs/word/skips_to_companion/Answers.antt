@@ -1,5 +1,5 @@
 -- The word may skip, and what stands at its skip's target was looked up.
-use Rattle.verdict.specs.Operands.{skip_target}
+use Rattle.validator_spec.specs.Operands.{skip_target}
 use Rattle.validator.proofs.word.skips_to_companion.Goals as goal
 
 pub returns-then-is_conditional_skip : goal.returns-then-is_conditional_skip

@@ -1,6 +1,6 @@
 -- A word without a target adds nothing, and the target of another is pc + 1 and its sBx.
 use Rattle.std.proofs.Common.{ℕ, ◌+◌, ap, arith}
-use Rattle.validator.proofs.OperandLaws.{bx_below, split_bx}
+use Rattle.validator.proofs.KnownOperandLaws.{bx_below, split_bx}
 use Rattle.validator.proofs.WordLaws.{has_target, no_target, no_jump, jump}
 use Rattle.validator.proofs.word.validate_jump.Goals as goal
 

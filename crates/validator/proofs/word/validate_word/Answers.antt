@@ -1,7 +1,7 @@
 -- The diagnostic of an unknown opcode, or those of the parts of a word, one after another.
 use Rattle.std.proofs.Common.{◌∙◌, arith}
 use Rattle.validator.proofs.DescribedLaws.{word_read}
-use Rattle.validator.proofs.KnownLaws.{decodes, word_unknown, word_known, binds, no_bindings}
+use Rattle.validator.proofs.WordDiagnosticLaws.{decodes, word_unknown, word_known, binds, no_bindings}
 use Rattle.validator.proofs.word.validate_word.Goals as goal
 
 pub returns-in_default : goal.returns-in_default
@@ -14,7 +14,7 @@ pub returns-then-is_closure : goal.returns-then-is_closure
 returns-then-is_closure c p d x =
     let split = c.decode-w.ensures in
     let read = c.read_u32.ensures ∙ word_read p _ _ _ d _ c.requires in
-    let closure = binds c.args.body.now.proto.row _ p _ _ split read (c.args.walk, c.args.out.now) _ c.in-Known.is _ c.is_closure.ensures c.if-is_closure.true in
+    let closure = binds c.args.body.now.limits.row _ p _ _ split read (c.args.walk, c.args.out.now) _ c.in-Known.is _ c.is_closure.ensures c.if-is_closure.true in
     word_known _ _ p _ _ split read _ _ c.in-Known.is _ _ _ (c.validate_flow-walk.ensures p d.stands) (c.validate_operands-walk.ensures p d.limits) (c.validate_bindings.ensures p d x closure)
 
 pub returns : goal.returns

@@ -2,8 +2,8 @@
 use Rattle.std.proofs.Common.{refl, arith}
 use Rattle.opcodes.proofs.SplitLaws.{split_again}
 use Rattle.validator.specs.Clean.{shapes}
-use Rattle.validator.proofs.OperandLaws.{bx_below}
-use Rattle.validator.proofs.OwnLaws.{executes}
+use Rattle.validator.proofs.KnownOperandLaws.{bx_below}
+use Rattle.validator.proofs.OwnStepLaws.{executes}
 use Rattle.validator.proofs.CleanLaws.{companion_clean, word_clean}
 use Rattle.validator.proofs.clean.CleanTest.is_clean.Goals as goal
 

@@ -1,5 +1,5 @@
 -- Where it is a CLOSURE, its Bx.
-use Rattle.validator.proofs.OperandLaws.{names_child}
+use Rattle.validator.proofs.KnownOperandLaws.{names_child}
 use Rattle.validator.proofs.operands.KnownWord.child_bx.Goals as goal
 
 pub returns : goal.returns

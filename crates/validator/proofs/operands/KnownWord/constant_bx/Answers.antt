@@ -1,8 +1,8 @@
 -- The opcode is one of those that name it, or not.
 use Rattle.std.proofs.Common.{rules, [], ◌∷◌}
 use Rattle.opcodes.specs.Words.{number_of, LOADK, GETGLOBAL, SETGLOBAL}
-use Rattle.verdict.specs.Operands.{constant_bx}
-use Rattle.validator.proofs.OperandLaws.{names, names_none, split_bx}
+use Rattle.validator_spec.specs.Operands.{constant_bx}
+use Rattle.validator.proofs.KnownOperandLaws.{names, names_none, split_bx}
 use Rattle.validator.proofs.operands.KnownWord.constant_bx.Goals as goal
 
 pub returns-in-LoadK : goal.returns-in-LoadK

@@ -2,7 +2,7 @@
 use Rattle.std.proofs.Common.{◌≡◌, ◌&&◌}
 use Rattle.opcodes.specs.Words.{is_constant, is_rk}
 use Rattle.opcodes.specs.Words.{field_of}
-use Rattle.validator.proofs.OperandLaws.{names_constant}
+use Rattle.validator.proofs.KnownOperandLaws.{names_constant}
 use Rattle.validator.proofs.operands.KnownWord.constant_in.Goals as goal
 use Rattle.validator.proofs.operands.KnownWord.constant_in.Goals.{then-rk, else-rk}
 

@@ -1,8 +1,8 @@
 -- The opcode is one of those that name it, or not.
 use Rattle.std.proofs.Common.{rules, [], ◌∷◌}
 use Rattle.opcodes.specs.Words.{number_of, EQ, LT, LE}
-use Rattle.verdict.specs.Operands.{flag_a}
-use Rattle.validator.proofs.OperandLaws.{names, names_none, split_a}
+use Rattle.validator_spec.specs.Operands.{flag_a}
+use Rattle.validator.proofs.KnownOperandLaws.{names, names_none, split_a}
 use Rattle.validator.proofs.operands.KnownWord.flag_a.Goals as goal
 
 pub returns-in-Eq : goal.returns-in-Eq

@@ -1,7 +1,7 @@
 -- The opcode is CLOSURE, or not.
 use Rattle.std.proofs.Common.{rules, [], ◌∷◌, ◌∙◌}
 use Rattle.opcodes.specs.Words.{number_of, CLOSURE}
-use Rattle.validator.proofs.OperandLaws.{listed}
+use Rattle.validator.proofs.KnownOperandLaws.{listed}
 use Rattle.validator.proofs.operands.KnownWord.is_closure.Goals as goal
 
 pub returns-in-Closure : goal.returns-in-Closure

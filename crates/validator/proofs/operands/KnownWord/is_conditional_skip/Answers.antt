@@ -1,7 +1,7 @@
 -- The opcode is one that always may skip, or LOADBOOL, or neither.
 use Rattle.std.proofs.Common.{rules}
 use Rattle.opcodes.specs.Words.{number_of}
-use Rattle.validator.proofs.OperandLaws.{skip_always, skip_by_c, skip_never}
+use Rattle.validator.proofs.KnownOperandLaws.{skip_always, skip_by_c, skip_never}
 use Rattle.validator.proofs.operands.KnownWord.is_conditional_skip.Goals as goal
 
 pub returns-in-Eq : goal.returns-in-Eq

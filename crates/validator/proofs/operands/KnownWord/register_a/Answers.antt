@@ -1,5 +1,5 @@
 -- Where A is a register, its value.
-use Rattle.validator.proofs.OperandLaws.{names_a}
+use Rattle.validator.proofs.KnownOperandLaws.{names_a}
 use Rattle.validator.proofs.operands.KnownWord.register_a.Goals as goal
 
 pub returns : goal.returns

@@ -2,7 +2,7 @@
 use Rattle.std.proofs.Common.{◌≡◌, not, ◌&&◌, ◌||◌}
 use Rattle.opcodes.specs.Words.{is_constant, is_fixed_register, is_rk}
 use Rattle.opcodes.specs.Words.{field_of}
-use Rattle.validator.proofs.OperandLaws.{names_register}
+use Rattle.validator.proofs.KnownOperandLaws.{names_register}
 use Rattle.validator.proofs.operands.KnownWord.register_in.Goals as goal
 use Rattle.validator.proofs.operands.KnownWord.register_in.Goals.{then-fixed, else-fixed+then-rk, else-fixed+else-rk}
 

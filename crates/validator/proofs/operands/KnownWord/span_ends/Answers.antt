@@ -1,7 +1,7 @@
 -- The spans are those of the word, by its opcode.
 use Rattle.std.proofs.Common.{rules, ap}
 use Rattle.opcodes.specs.Words.{number_of}
-use Rattle.validator.proofs.OperandLaws.{span_self, span_for, span_tforloop, span_call, span_tailcall, span_return, span_setlist, span_none}
+use Rattle.validator.proofs.KnownOperandLaws.{span_self, span_for, span_tforloop, span_call, span_tailcall, span_return, span_setlist, span_none}
 use Rattle.validator.proofs.operands.KnownWord.span_ends.Goals as goal
 
 pub returns-in-SelfOp : goal.returns-in-SelfOp

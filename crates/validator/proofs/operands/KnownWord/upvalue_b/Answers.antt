@@ -1,8 +1,8 @@
 -- The opcode is one of those that name it, or not.
 use Rattle.std.proofs.Common.{rules, [], ◌∷◌}
 use Rattle.opcodes.specs.Words.{number_of, GETUPVAL, SETUPVAL}
-use Rattle.verdict.specs.Operands.{upvalue_b}
-use Rattle.validator.proofs.OperandLaws.{names, names_none, split_b}
+use Rattle.validator_spec.specs.Operands.{upvalue_b}
+use Rattle.validator.proofs.KnownOperandLaws.{names, names_none, split_b}
 use Rattle.validator.proofs.operands.KnownWord.upvalue_b.Goals as goal
 
 pub returns-in-GetUpval : goal.returns-in-GetUpval

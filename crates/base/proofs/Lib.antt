@@ -1,0 +1,6 @@
+pub mod AllLaws
+pub mod ByteLaws
+pub mod ListLaws
+pub mod PartLaws
+pub mod SignedLaws
+pub mod TestLaws

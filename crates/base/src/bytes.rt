@@ -1,0 +1,81 @@
+// Numbers in byte slices, least byte first. Every function answers for any slice and any index.
+ghost use Rattle.std.specs.Prelude.{◌≡◌, ◌+◌, ◌*◌, leb, length, get_or};
+ghost use Rattle.base.specs.Bytes.{i32_bits, i32_bytes, overwrite, u32_at, u32_bytes, u32_record};
+
+// The bits of -1.
+pub const MINUS_ONE: u32 = 0xffff_ffff;
+
+// The u32 whose least byte stands at `at`. Bytes past the end count as 0.
+#[tactic(auto, unfolding(crate::specs::Bytes::u32_at))]
+pub fn read_u32(s: &[u8], at: usize) -> u32
+    ensures { result ≡ u32_at s.now at }
+{
+    let rest = s.get(at..).unwrap_or(&[]);
+    match rest.first_chunk::<4>() {
+        Some(bytes) => u32::from_le_bytes(*bytes),
+        None => cut_u32(rest),
+    }
+}
+
+// Writes the four bytes of x from `at` on, where they fit.
+pub fn write_u32(out: &mut [u8], at: usize, x: u32)
+    ensures { out.new ≡ overwrite out.old at (u32_bytes x) }
+{
+    write_record(out, at, &[x]);
+}
+
+// Writes the four bytes of v from `at` on, where they fit. A trait for both kinds of number would be longer than this line.
+#[tactic(auto, unfolding(crate::specs::Bytes::i32_bytes))]
+pub fn write_i32(out: &mut [u8], at: usize, v: i32)
+    ensures { out.new ≡ overwrite out.old at (i32_bytes v) }
+{
+    write_u32(out, at, i32_bits(v));
+}
+
+// Writes a record of any number of u32 from `at` on, where it fits as a whole. A record of i32 is that of their bits.
+pub fn write_record(out: &mut [u8], at: usize, values: &[u32])
+    ensures { out.new ≡ overwrite out.old at (u32_record values.now) }
+{
+    if !has_room(out.len(), at, values.len()) {
+        return;
+    }
+    for (i, value) in values.iter().enumerate() {
+        let start = at + 4 * i;
+        out[start..start + 4].copy_from_slice(&value.to_le_bytes());
+    }
+}
+
+// The bits of v, two's complement.
+#[tactic(auto, using(crate::proofs::SignedLaws::i32_bits_machine))]
+pub fn i32_bits(v: i32) -> u32
+    ensures { result ≡ i32_bits v }
+{
+    v.cast_unsigned()
+}
+
+// Whether `count` u32 from `at` on lie within `len` bytes.
+fn has_room(len: usize, at: usize, count: usize) -> bool
+    ensures { result ≡ leb (at + 4 * count) len }
+{
+    at <= len && count <= (len - at) / 4
+}
+
+// The u32 of all the bytes of s, which are fewer than four. Those that are missing count as 0.
+#[tactic(auto, unfolding(crate::specs::Bytes::u32_at))]
+fn cut_u32(s: &[u8]) -> u32
+    ensures { result ≡ u32_at s.now 0 }
+{
+    u32::from_le_bytes([
+        byte_or_zero(s, 0),
+        byte_or_zero(s, 1),
+        byte_or_zero(s, 2),
+        byte_or_zero(s, 3),
+    ])
+}
+
+// Byte k, or 0 past the end.
+fn byte_or_zero(s: &[u8], k: usize) -> u8
+    ensures { result ≡ get_or s.now k 0 }
+{
+    s.get(k).copied().unwrap_or(0)
+}

@@ -1,8 +1,0 @@
--- What the digits from an index on make of the value so far.
-use Rattle.std.proofs.Common.{◌≡◌, ◌^◌, ◌<◌, drop}
-use Rattle.listing.specs.Text.{value_of}
-use Rattle.check_listing.proofs.NumberLaws.{value_from}
-use Rattle.check_listing.proofs.numbers.digits_value.Given as goal
-
-abbrev pub invariant-loop-digit : goal.invariant-loop-digit
-invariant-loop-digit l = (l.value < 2 ^ 32) × (value_of l.base l.digits ≡ value_from l.base l.value (drop l.digit-index l.digits))

@@ -1,5 +1,0 @@
--- `most` falls with each call.
-use Rattle.check_listing.proofs.printer.Printer.+digits.Given as goal
-
-abbrev pub decreases-digits : goal.decreases-digits
-decreases-digits l = l.most

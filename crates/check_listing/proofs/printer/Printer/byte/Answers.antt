@@ -1,7 +1,0 @@
--- One byte is printed.
-use Rattle.std.proofs.Common.{[], ◌∷◌, arith, refl}
-use Rattle.opcodes.proofs.ByteLaws.{sets_overwrite}
-use Rattle.check_listing.proofs.printer.Printer.byte.Goals as goal
-
-pub returns : goal.returns
-returns c = record { bytes = sets_overwrite _ _ (c.args.byte ∷ []) (omega arith); ends = refl; same = refl }

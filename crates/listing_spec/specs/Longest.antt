@@ -1,0 +1,41 @@
+-- The longest input that is read without refusal 9 or 10, and the program's buffer. Assumes nothing: these are definitions.
+use Rattle.std.specs.Prelude.{ℕ, ◌+◌, ◌*◌, ◌≡◌, List, take}
+use Rattle.roles_spec.specs.Table.{row_fields}
+use Rattle.listing_spec.specs.Listing.{max_listing_rows, max_listing_words}
+use Rattle.listing_spec.specs.Packcheck.{packcheck}
+
+-- ---- the bytes of a line in form: at most so many
+
+-- the digits of a u32
+abbrev pub longest_number : ℕ
+longest_number = 10
+
+-- so many numbers, each with the byte after it
+abbrev pub longest_numbers : ℕ → ℕ
+longest_numbers count = (longest_number + 1) * count
+
+-- eight digits and the newline
+abbrev pub longest_word : ℕ
+longest_word = 9
+
+-- the lines before the rows: names, what came in, names
+abbrev pub longest_head : ℕ
+longest_head = 16 + longest_numbers 2 + 37
+
+-- so many rows and the line "word"
+abbrev pub longest_rows : ℕ → ℕ
+longest_rows rows = longest_numbers row_fields * rows + 5
+
+-- ---- the bytes of an input
+
+-- the longest listing that is not refused by 9 or 10
+abbrev pub longest_listing : ℕ
+longest_listing = longest_head + longest_rows max_listing_rows + longest_word * max_listing_words
+
+-- the program's buffer, the large one of io: it reads no more bytes of its input
+abbrev pub input_bytes : ℕ
+input_bytes = 65536
+
+-- so many bytes of an input decide the whole output
+abbrev pub DecidedBy : ℕ → Type 0
+DecidedBy n = (input : List ℕ) → packcheck (take n input) ≡ packcheck input

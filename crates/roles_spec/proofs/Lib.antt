@@ -1,0 +1,16 @@
+pub mod BindingRecordLaws
+pub mod ChildLaws
+pub mod ExampleLaws
+pub mod OwnerLaws
+pub mod RefusalLaws
+pub mod RoleBufferLaws
+pub mod RoleLaws
+pub mod RoleLookupLaws
+pub mod RoleRecordLaws
+pub mod RowCheckLaws
+pub mod RowPartLaws
+pub mod TableLaws
+pub mod TotalLaws
+pub mod RefusedCallLaws
+pub mod BindingWriteLaws
+pub mod AcceptedCallLaws

@@ -1,6 +1,0 @@
--- A stack larger than the usual is warned of.
-use Rattle.validator.proofs.OwnLaws.{stack_warned}
-use Rattle.validator.proofs.proto.validate_stack.Goals as goal
-
-pub returns : goal.returns
-returns c p l = stack_warned _ p _ l _ c.then_some-large.ensures _ _ c.emit_if.ensures

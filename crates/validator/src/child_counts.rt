@@ -1,0 +1,33 @@
+// The number of children of each row, counted for all rows at once.
+ghost use Rattle.std.specs.Prelude.{◌+◌, ◌/◌, ◌<◌, ◌≤◌, length};
+ghost use Rattle.roles_spec.specs.Table.{row_bytes};
+ghost use Rattle.validator.specs.Terms.{ChildCounts, Counted, Ordered};
+
+use roles::refusals::MAX_DEPTH;
+use roles::table::{Column, ROW_BYTES, Row};
+
+// So many depths a row can have, and one more.
+const DEPTHS: usize = MAX_DEPTH as usize + 2;
+
+// Counts the children of each row, from the last row to the first. For each depth up to one more than the most, `pending` has how many of the rows
+// passed have it and stand before any that is less deep.
+pub fn count_children(table: &[u8], counts: &mut [u32])
+    requires { Ordered table.now × (length table.now / row_bytes ≤ length counts.old) }
+    ensures { ChildCounts table.now counts.new }
+{
+    let mut pending = [0u32; DEPTHS];
+    for number in (0..table.len() / ROW_BYTES).rev() {
+        count_row(table, number, counts, &mut pending);
+    }
+}
+
+// A row, after all rows behind it: those pending that are one deeper are its children, and it is one more of its own depth.
+fn count_row(table: &[u8], number: usize, counts: &mut [u32], pending: &mut [u32])
+    requires { Ordered table.now × (number < length table.now / row_bytes) × Counted table.now (number + 1) counts.old pending.old }
+    ensures { Counted table.now number counts.new pending.new }
+{
+    let depth = Row { table, number }.field(Column::Depth) as usize;
+    counts[number] = pending[depth + 1];
+    pending[depth + 1] = 0;
+    pending[depth] += 1;
+}

@@ -1,0 +1,81 @@
+// A row of the table to the functions that judge its prototype: its limits, with its words and their roles, with the table.
+ghost use Rattle.std.specs.Prelude.{◌≡◌, ◌+◌, ◌*◌, ◌/◌, ◌<◌, ◌≤◌, length};
+ghost use Rattle.base.specs.Bytes.{u32s};
+ghost use Rattle.roles_spec.specs.Refusals.{max_word_bytes};
+ghost use Rattle.roles_spec.specs.Table.{proto_in, row_bytes};
+ghost use Rattle.validator.specs.Steps.{Filled};
+ghost use Rattle.validator.specs.Terms.{ChildCounts, Describes, row_limits};
+
+use roles::table::{Column, ROW_BYTES, Row};
+
+// What the diagnostics of a prototype depend on beside its words and their roles.
+#[derive(Clone, Copy)]
+pub struct RowLimits {
+    pub row: u32,
+    pub depth: u32,
+    pub words: u32,
+    pub constants: u32,
+    pub upvalues: u32,
+    pub stack: u32,
+    pub children: u32,
+}
+
+// A prototype to the functions that look at its words: its row's fields, its words and their roles.
+// (Their contracts speak of every prototype that it describes: that is a term of the definitions, made of the whole table, which they are not lent, and a
+// ghost field is a fact and could not be that term. That a pc is one of its words stands at the three functions that get one: a struct of both would be
+// made anew for each word.)
+#[derive(Clone, Copy)]
+pub struct Body<'a> {
+    pub limits: RowLimits,
+    pub code: &'a [u8],
+    pub roles: &'a [u8],
+    ghost code_short: { length code.now ≤ max_word_bytes },
+    ghost roles_short: { length roles.now ≤ 2 * max_word_bytes },
+}
+
+// The table of an accepted image, with its words, their roles and the number of children of each row. (A list beside the rows: there is no heap for more.)
+#[derive(Clone, Copy)]
+pub struct CountedImage<'a> {
+    pub table: &'a [u8],
+    pub words: &'a [u8],
+    pub roles: &'a [u8],
+    pub counts: &'a [u32],
+    ghost filled: { Filled table.now words.now roles.now },
+    ghost counted: { ChildCounts table.now counts.now },
+}
+
+// A row to the functions that judge its prototype: the table that it stands in, and the prototype with its words and their roles.
+#[derive(Clone, Copy)]
+pub struct RowBody<'a> {
+    pub table: &'a [u8],
+    pub body: Body<'a>,
+    ghost limits: { body.limits ≡ row_limits table.now body.limits.row },
+    ghost describes: { Describes (proto_in table.now body.limits.row (u32s body.code.now)) body.limits body.code.now body.roles.now },
+}
+
+impl<'a> CountedImage<'a> {
+    // How many rows it has.
+    pub fn rows(&self) -> usize
+        ensures { result ≡ length self.now.table.now / row_bytes }
+    {
+        self.table.len() / ROW_BYTES
+    }
+
+    // The prototype in a row.
+    pub fn row_limits(&self, number: usize) -> RowLimits
+        requires { number < length self.now.table.now / row_bytes }
+        ensures { result ≡ row_limits self.now.table.now number }
+    {
+        let table = self.table;
+        let row = Row { table, number };
+        RowLimits {
+            row: number as u32,
+            depth: row.field(Column::Depth),
+            words: row.field(Column::Words),
+            constants: row.field(Column::Constants),
+            upvalues: row.field(Column::Upvalues),
+            stack: row.field(Column::Stack),
+            children: self.counts[number],
+        }
+    }
+}

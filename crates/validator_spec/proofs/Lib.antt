@@ -1,0 +1,14 @@
+pub mod ExampleLaws
+pub mod ExecutionLaws
+pub mod GuaranteeLaws
+pub mod LimitLaws
+pub mod MostLaws
+pub mod RangeLaws
+pub mod RecordLaws
+pub mod RuleLaws
+pub mod OperandLaws
+pub mod RunLaws
+pub mod Theorems
+pub mod TreeLaws
+pub mod VerdictLaws
+pub mod Witnesses

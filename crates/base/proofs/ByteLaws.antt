@@ -9,11 +9,11 @@ use mathlib.Core.List.{List, [], ◌∷◌, ◌++◌, append_assoc, append-nil, 
 use borrow.Rule.Slice.PartMut.{put_mid, post_of}
 use borrow.Author.Tests.{le-leb, lt-leb, leb-true, leb-false}
 use lib.Dec.{leb}
-use lib.ListN.{length, get_or, take, drop, drop_of_length-le, length-append, length-map, length-take, length-drop, take-append-drop}
+use lib.ListN.{length, get_or, get_or-eq_default, take, drop, drop_of_length-le, length-append, length-map, length-take, length-drop, take-append-drop}
 use lib.IntN.{ℤ}
 use lib.Seq.{sets, sets-eq, take_at, drop-drop, drop-append-add, get_or-append-add, length-take-le, take-suc, ext_get_or}
 use Rattle.base.specs.Lists.{All, all_cons}
-use Rattle.base.specs.Bytes.{overwrite, u32_at, u32_bytes, u32_record, u32s, i32_bits, i32_record}
+use Rattle.base.specs.Bytes.{overwrite, u32_from, u32_bytes, u32_record, u32s, i32_bits, i32_record}
 use Rattle.base.proofs.ListLaws.{get_d_tabulate, length_tabulate, flat_map_append}
 
 -- ---- the u32 of a byte list
@@ -22,9 +22,12 @@ pub length_u32s : (s : List ℕ) → length (u32s s) ≡ length s / 4
 unfolding u32s
 length_u32s s = length_tabulate _ (length s / 4)
 
-pub get_d_u32s : (s : List ℕ) (k : ℕ) → k < length s / 4 → get_or (u32s s) k 0 ≡ u32_at s (4 * k)
+pub get_d_u32s : (s : List ℕ) (k : ℕ) → k < length s / 4 → get_or (u32s s) k 0 ≡ u32_from s (4 * k)
 unfolding u32s
-get_d_u32s s k h = get_d_tabulate (λ i. u32_at s (4 * i)) (length s / 4) k 0 h
+get_d_u32s s k h = get_d_tabulate (λ i. u32_from s (4 * i)) (length s / 4) k 0 h
+
+pub u32_past_end : (s : List ℕ) (k : ℕ) → length s / 4 ≤ k → get_or (u32s s) k 0 ≡ 0
+u32_past_end s k h = get_or-eq_default (u32s s) 0 (omega (arith, length_u32s s))
 
 -- ---- lengths
 
@@ -164,37 +167,37 @@ record_next old m m' at i ns h fits e d =
 byte_step : (n m : ℕ) → n / 256 ≡ m → n % 256 + m * 256 ≡ n
 byte_step n m e = omega arith
 
-u32_at_front : (n : ℕ) (rest : List ℕ) → n < 2 ^ 32 → u32_at (u32_bytes n ++ rest) 0 ≡ n
-unfolding u32_at u32_bytes
-u32_at_front n rest h =
+u32_from_front : (n : ℕ) (rest : List ℕ) → n < 2 ^ 32 → u32_from (u32_bytes n ++ rest) 0 ≡ n
+unfolding u32_from u32_bytes
+u32_from_front n rest h =
     let a = byte_step n (n / 256) refl in
     let b = byte_step (n / 256) (n / 65536) (div-div-eq-div-mul n 256 256) in
     let c = byte_step (n / 65536) (n / 16777216) (div-div-eq-div-mul n 65536 256) in
     let d : n / 16777216 % 256 ≡ n / 16777216 = mod-eq_of_lt (omega arith) in
     omega arith
 
-u32_at_append : (xs ys : List ℕ) (at : ℕ) → u32_at (xs ++ ys) (length xs + at) ≡ u32_at ys at
-unfolding u32_at
-u32_at_append xs ys at = simp (add_assoc, get_or-append-add)
+u32_from_append : (xs ys : List ℕ) (at : ℕ) → u32_from (xs ++ ys) (length xs + at) ≡ u32_from ys at
+unfolding u32_from
+u32_from_append xs ys at = simp (add_assoc, get_or-append-add)
 
 -- value k of a record that was written
-u32_at_values : (ns rest : List ℕ) (k : ℕ) → All (λ n. n < 2 ^ 32) ns → k < length ns → u32_at (u32_record ns ++ rest) (4 * k) ≡ get_or ns k 0
+u32_from_values : (ns rest : List ℕ) (k : ℕ) → All (λ n. n < 2 ^ 32) ns → k < length ns → u32_from (u32_record ns ++ rest) (4 * k) ≡ get_or ns k 0
 unfolding u32_record flat_map
-u32_at_values [] rest k b h = absurd (not-suc-le-zero h)
-u32_at_values (n ∷ ns) rest zero (all_cons b bs) h = rw append_assoc (u32_at_front n _ b)
-u32_at_values (n ∷ ns) rest (suc k) (all_cons b bs) h =
+u32_from_values [] rest k b h = absurd (not-suc-le-zero h)
+u32_from_values (n ∷ ns) rest zero (all_cons b bs) h = rw append_assoc (u32_from_front n _ b)
+u32_from_values (n ∷ ns) rest (suc k) (all_cons b bs) h =
     let e : 4 * suc k ≡ length (u32_bytes n) + 4 * k = omega (arith, length_u32_bytes n) in
-    ap₂ u32_at (append_assoc (u32_bytes n) (flat_map u32_bytes ns) rest) e ∙ u32_at_append (u32_bytes n) (u32_record ns ++ rest) (4 * k) ∙ u32_at_values ns rest k bs (le_of_suc-le-suc h)
+    ap₂ u32_from (append_assoc (u32_bytes n) (flat_map u32_bytes ns) rest) e ∙ u32_from_append (u32_bytes n) (u32_record ns ++ rest) (4 * k) ∙ u32_from_values ns rest k bs (le_of_suc-le-suc h)
 
-pub u32_at_record : (old : List ℕ) (at : ℕ) (ns : List ℕ) (k : ℕ) → All (λ n. n < 2 ^ 32) ns → k < length ns → at + 4 * length ns ≤ length old
-    → u32_at (overwrite old at (u32_record ns)) (at + 4 * k) ≡ get_or ns k 0
-u32_at_record old at ns k b h fits =
+pub u32_from_record : (old : List ℕ) (at : ℕ) (ns : List ℕ) (k : ℕ) → All (λ n. n < 2 ^ 32) ns → k < length ns → at + 4 * length ns ≤ length old
+    → u32_from (overwrite old at (u32_record ns)) (at + 4 * k) ≡ get_or ns k 0
+u32_from_record old at ns k b h fits =
     let front = take at old in
     let rest = drop (at + length (u32_record ns)) old in
     let e : at + 4 * k ≡ length front + 4 * k = omega (arith, length-take-le at old (omega arith)) in
-    ap₂ u32_at (overwrite_fits old at (u32_record ns) (omega (arith, length_u32_record ns)) ∙ append_assoc front (u32_record ns) rest) e
-    ∙ u32_at_append front (u32_record ns ++ rest) (4 * k)
-    ∙ u32_at_values ns rest k b h
+    ap₂ u32_from (overwrite_fits old at (u32_record ns) (omega (arith, length_u32_record ns)) ∙ append_assoc front (u32_record ns) rest) e
+    ∙ u32_from_append front (u32_record ns ++ rest) (4 * k)
+    ∙ u32_from_values ns rest k b h
 
 -- the u32 of a record are its values
 pub u32s_record : (ns : List ℕ) → All (λ n. n < 2 ^ 32) ns → u32s (u32_record ns) ≡ ns
@@ -203,7 +206,7 @@ u32s_record ns b =
     ext_get_or 0 (u32s (u32_record ns)) ns (length_u32s (u32_record ns) ∙ count)
     (λ k h.
     let there : k < length (u32_record ns) / 4 = omega (arith, length_u32s (u32_record ns)) in
-    get_d_u32s (u32_record ns) k there ∙ ap (λ (l : List ℕ). u32_at l (4 * k)) (sym (append-nil (u32_record ns))) ∙ u32_at_values ns [] k b (omega arith))
+    get_d_u32s (u32_record ns) k there ∙ ap (λ (l : List ℕ). u32_from l (4 * k)) (sym (append-nil (u32_record ns))) ∙ u32_from_values ns [] k b (omega arith))
 
 -- ---- the test before a write
 

@@ -6,14 +6,14 @@ use mathlib.Core.Path.{◌≡◌, sym, ◌∙◌, ap, ap₂}
 use mathlib.Core.List.{List, ◌++◌, append_assoc}
 use lib.ListN.{length, get_or, take, drop, length-append, length-drop, take-append-drop}
 use lib.Seq.{length-take-le, take-append-add, take-append-le, take_at, drop-append-add, drop-append-le, drop-drop, get_or-take, get_or-drop, ext_get_or}
-use Rattle.base.specs.Bytes.{u32_at, u32s, overwrite}
+use Rattle.base.specs.Bytes.{u32_from, u32s, overwrite}
 use Rattle.base.proofs.ByteLaws.{length_u32s, get_d_u32s, overwrite_fits}
 
 -- ---- reading
 
-pub u32_at_part : (s : List ℕ) (a k i : ℕ) → i + 4 ≤ k → u32_at (take k (drop a s)) i ≡ u32_at s (a + i)
-unfolding u32_at
-u32_at_part s a k i h =
+pub u32_from_part : (s : List ℕ) (a k i : ℕ) → i + 4 ≤ k → u32_from (take k (drop a s)) i ≡ u32_from s (a + i)
+unfolding u32_from
+u32_from_part s a k i h =
     let byte : (j : ℕ) → i + j < k → get_or (take k (drop a s)) (i + j) 0 ≡ get_or s (a + i + j) 0 = λ j l. get_or-take k (drop a s) (i + j) 0 l ∙ get_or-drop a s (i + j) 0 ∙ ap (λ (n : ℕ). get_or s n 0) (sym (add_assoc a i j)) in
     let first : get_or (take k (drop a s)) i 0 ≡ get_or s (a + i) 0 = get_or-take k (drop a s) i 0 (omega arith) ∙ get_or-drop a s i 0 in
     rw (first, byte 1 (omega arith), byte 2 (omega arith), byte 3 (omega arith))
@@ -29,8 +29,8 @@ u32s_part s a n h =
     let below : i < n = omega (arith, length_u32s part) in
     let place : 4 * a + 4 * i ≡ 4 * (a + i) = omega arith in
     get_d_u32s part i (omega (arith, length_u32s part))
-    ∙ u32_at_part s (4 * a) (4 * n) (4 * i) (omega arith)
-    ∙ ap (u32_at s) place
+    ∙ u32_from_part s (4 * a) (4 * n) (4 * i) (omega arith)
+    ∙ ap (u32_from s) place
     ∙ sym (get_or-take n (drop a (u32s s)) i 0 below ∙ get_or-drop a (u32s s) i 0 ∙ get_d_u32s s (a + i) (omega arith)))
 
 -- ---- writing

@@ -4,12 +4,12 @@ use mathlib.Core.List.{List, [], ◌∷◌, ◌++◌, flat_map, map}
 use Rattle.base.specs.Lists.{tabulate}
 
 -- the u32 whose least byte stands at index `at`; bytes past the end count as 0
-unfoldable pub u32_at : List ℕ → ℕ → ℕ
-u32_at s at = get_or s at 0 + get_or s (at + 1) 0 * 0x100 + get_or s (at + 2) 0 * 0x1_0000 + get_or s (at + 3) 0 * 0x100_0000
+unfoldable pub u32_from : List ℕ → ℕ → ℕ
+u32_from s at = get_or s at 0 + get_or s (at + 1) 0 * 0x100 + get_or s (at + 2) 0 * 0x1_0000 + get_or s (at + 3) 0 * 0x100_0000
 
 -- all the u32 of a byte list, end to end: "four bytes each". Bytes past the last whole one count for nothing
 unfoldable pub u32s : List ℕ → List ℕ
-u32s s = tabulate (length s / 4) (λ i. u32_at s (4 * i))
+u32s s = tabulate (length s / 4) (λ i. u32_from s (4 * i))
 
 -- a u32 as four bytes
 unfoldable pub u32_bytes : ℕ → List ℕ

@@ -1,20 +1,31 @@
 // Numbers in byte slices, least byte first. Every function answers for any slice and any index.
 ghost use Rattle.std.specs.Prelude.{◌≡◌, ◌+◌, ◌*◌, leb, length, get_or};
-ghost use Rattle.base.specs.Bytes.{i32_bits, i32_bytes, overwrite, u32_at, u32_bytes, u32_record};
+ghost use Rattle.base.specs.Bytes.{i32_bits, i32_bytes, overwrite, u32_from, u32_bytes, u32_record, u32s};
 
 // The bits of -1.
 pub const MINUS_ONE: u32 = 0xffff_ffff;
 
 // The u32 whose least byte stands at `at`. Bytes past the end count as 0.
-#[tactic(auto, unfolding(crate::specs::Bytes::u32_at))]
+#[tactic(auto, unfolding(crate::specs::Bytes::u32_from))]
 pub fn read_u32(s: &[u8], at: usize) -> u32
-    ensures { result ≡ u32_at s.now at }
+    ensures { result ≡ u32_from s.now at }
 {
     let rest = s.get(at..).unwrap_or(&[]);
     match rest.first_chunk::<4>() {
         Some(bytes) => u32::from_le_bytes(*bytes),
         None => cut_u32(rest),
     }
+}
+
+// The u32 number i of those that stand end to end in s, or 0 past the last whole one. (It is read from the part of four bytes that it is, of which the
+// compiler drops the test for room.)
+pub fn u32_at(s: &[u8], i: usize) -> u32
+    ensures { result ≡ get_or (u32s s.now) i 0 }
+{
+    if s.len() / 4 <= i {
+        return 0;
+    }
+    read_u32(&s[4 * i..4 * i + 4], 0)
 }
 
 // Writes the four bytes of x from `at` on, where they fit.
@@ -61,9 +72,9 @@ fn has_room(len: usize, at: usize, count: usize) -> bool
 }
 
 // The u32 of all the bytes of s, which are fewer than four. Those that are missing count as 0.
-#[tactic(auto, unfolding(crate::specs::Bytes::u32_at))]
+#[tactic(auto, unfolding(crate::specs::Bytes::u32_from))]
 fn cut_u32(s: &[u8]) -> u32
-    ensures { result ≡ u32_at s.now 0 }
+    ensures { result ≡ u32_from s.now 0 }
 {
     u32::from_le_bytes([
         byte_or_zero(s, 0),

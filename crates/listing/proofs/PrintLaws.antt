@@ -14,7 +14,7 @@ use lib.Seq.{drop-drop}
 use borrow.Rule.Slice.PartMut.{put_mid}
 use lib.IntN.{ℤ, pos, negsuc}
 use Rattle.std.proofs.lemmas.List.{get_or_default}
-use Rattle.base.specs.Bytes.{overwrite, u32_at}
+use Rattle.base.specs.Bytes.{overwrite, u32_from}
 use Rattle.base.specs.Lists.{tabulate, every}
 use Rattle.base.proofs.ByteLaws.{length_overwrite, overwrite_fits, overwrite_none, overwrite_next}
 use Rattle.base.proofs.ListLaws.{length_tabulate, tabulate_next, flat_map_append}
@@ -220,7 +220,7 @@ diagnostics_end buffer count p =
 
 -- diagnostic n, by its four numbers
 pub prints_diagnostic : {old a b c new : Printer} (buffer : List ℕ) (n : ℕ) {row pc code value : ℕ} → old.end + longest_diagnostic ≤ length old.out.now
-    → row ≡ u32_at buffer (16 * n) → pc ≡ u32_at buffer (16 * n + 4) → code ≡ u32_at buffer (16 * n + 8) → value ≡ u32_at buffer (16 * n + 12)
+    → row ≡ u32_from buffer (16 * n) → pc ≡ u32_from buffer (16 * n + 4) → code ≡ u32_from buffer (16 * n + 8) → value ≡ u32_from buffer (16 * n + 12)
     → Prints old (decimal row ++ (space ∷ [])) a → Prints a (integer (signed pc) ++ (space ∷ [])) b
     → Prints b (text (code_name code) ++ (space ∷ [])) c → Prints c (integer (signed value) ++ (newline ∷ [])) new
     → Prints old (diagnostic_text (diagnostic_in buffer n)) new

@@ -2,13 +2,13 @@
 use Rattle.std.proofs.Common.{◌≡◌, ℕ, suc, ◌+◌, ◌-◌, ◌*◌, ◌/◌, ◌<◌, ◌≤◌, Bool, true, false, T, List, [], ◌∷◌, ◌++◌, length, get_or, take, drop, sym, refl, ap, ◌∙◌, ap₂, append-nil, add-zero, arith, length-drop, length-take, length-take-le, get_or-drop, take_all, drop-cons, drop-drop, take_at, take-add, drop_at}
 use mathlib.Core.Path.{subst⁻¹}
 use Rattle.base.specs.Lists.{only}
-use Rattle.base.specs.Bytes.{u32_at, u32s, overwrite}
+use Rattle.base.specs.Bytes.{u32s, overwrite}
 use Rattle.opcodes.specs.Words.{is, CLOSURE}
 use Rattle.roles_spec.specs.Table.{row_at, Proto, proto_of, proto_in}
 use Rattle.roles_spec.specs.Roles.{Role, Instruction, binding_count, has_extra, claims, roles_from, roles, role_at, word_at, Executable, existing, companions, role_bytes, records_of}
 use Rattle.roles.specs.Terms.{child_bindings, companions_of, claimed_roles}
 use Rattle.roles.specs.declared.discovery.Companions.{Companions}
-use Rattle.base.proofs.ByteLaws.{length_u32s, get_d_u32s, length_overwrite}
+use Rattle.base.proofs.ByteLaws.{length_u32s, length_overwrite}
 use Rattle.roles_spec.proofs.RoleLaws.{role_executable, executable, owned_count, past_claims, no_both}
 use Rattle.roles_spec.proofs.RoleBufferLaws.{length_roles}
 use Rattle.roles_spec.proofs.RoleRecordLaws.{records_none, records_next}
@@ -79,14 +79,14 @@ module _ (table : List ℕ) (row : ℕ) (code : List ℕ) (stated : (row_at tabl
     pass_ends h = v.written ∙ ap (λ (rs : List Role). overwrite old 0 (records_of rs)) (take_all pc (roles p) (omega (arith, count)))
 
     -- an executable word, and the companions that exist
-    module _ (there : pc < length code / 4) (room : 2 * length code ≤ length old) (w : ℕ) (word : w ≡ u32_at code (4 * pc)) (cs : Companions) (owns : cs ≡ companions_of table row w) where
+    module _ (there : pc < length code / 4) (room : 2 * length code ≤ length old) (w : ℕ) (word : w ≡ get_or (u32s code) pc 0) (cs : Companions) (owns : cs ≡ companions_of table row w) where
       abbrev mine : List Role
       mine = existing_roles (length code / 4) pc cs
 
       next_word : drop pc (u32s code) ≡ w ∷ drop (suc pc) (u32s code)
       next_word =
           drop-cons (u32s code) pc 0 (omega (arith, length_u32s code))
-          ∙ ap (λ (x : ℕ). x ∷ drop (suc pc) (u32s code)) (get_d_u32s code pc there ∙ sym word)
+          ∙ ap (λ (x : ℕ). x ∷ drop (suc pc) (u32s code)) (sym word)
 
       -- what exists of the words that it claims
       claimed : take (length (drop (suc pc) (u32s code))) (claims p pc w) ≡ mine
@@ -128,7 +128,7 @@ module _ (table : List ℕ) (row : ℕ) (code : List ℕ) (stated : (row_at tabl
       -- it is executable, and so many companions exist
       word_here : word_at p pc ≡ w
       unfolding word_at
-      word_here = ap (λ (l : List ℕ). get_or l pc 0) code_of ∙ get_d_u32s code pc there ∙ sym word
+      word_here = ap (λ (l : List ℕ). get_or l pc 0) code_of ∙ sym word
 
       executable_here : Executable p pc
       unfolding role_at

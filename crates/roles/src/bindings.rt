@@ -6,8 +6,8 @@ ghost use Rattle.roles_spec.specs.Bindings.{binding_bytes, binding_records, unbo
 ghost use Rattle.roles_spec.specs.Refusals.{max_word_bytes};
 ghost use Rattle.roles.specs.BindingSteps.{Bindable, bound_by, bound_claim, bound_from, max_bindings};
 
-use crate::discovery::{Companions, word_at};
-use base::bytes::{MINUS_ONE, write_record};
+use crate::discovery::Companions;
+use base::bytes::{MINUS_ONE, u32_at, write_record};
 use opcodes::{Opcode51, RawInstruction51};
 
 // The length of a record in bytes.
@@ -60,14 +60,14 @@ fn bind_child(bindings: &mut [u8], first: usize, upvalues: usize, words: &Compan
 }
 
 // The words each set a record, in order.
-#[tactic(auto, using(base::proofs::ByteLaws::get_d_u32s, crate::proofs::BindingStepLaws::bound_none, crate::proofs::BindingStepLaws::bound_more))]
+#[tactic(auto, using(crate::proofs::BindingStepLaws::bound_none, crate::proofs::BindingStepLaws::bound_more))]
 fn bind_words(records: &mut [u8], words: &CompanionWords)
     requires { binding_bytes * words.now.existing ≤ length records.old }
     ensures { records.new ≡ bound_from (u32s words.now.code.now) (words.now.pc + 1) 0 words.now.existing records.old }
 {
     for j in 0..words.existing {
         let at = words.pc + 1 + j;
-        bind_word(records, j, at as u32, word_at(words.code, at));
+        bind_word(records, j, at as u32, u32_at(words.code, at));
     }
 }
 

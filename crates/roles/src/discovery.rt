@@ -1,6 +1,6 @@
 // The roles of a prototype's words, front to back, after luad's `discover_roles_lua51`, and on the way the bindings of its children.
 ghost use Rattle.std.specs.Prelude.{◌≡◌, ◌+◌, ◌*◌, ◌/◌, ◌<◌, ◌≤◌, length, min, take, if◌then◌else◌, nat_eq};
-ghost use Rattle.base.specs.Bytes.{overwrite, u32_at, u32s};
+ghost use Rattle.base.specs.Bytes.{overwrite, u32s};
 ghost use Rattle.base.specs.Lists.{tabulate};
 ghost use Rattle.roles_spec.specs.Bindings.{writes};
 ghost use Rattle.roles_spec.specs.Refusals.{max_rows, max_word_bytes};
@@ -14,7 +14,7 @@ use crate::bindings::{CompanionWords, bind_claim};
 use crate::role::{Lua51PhysicalRole, ROLE_BYTES, write_role};
 use crate::search::Children;
 use crate::table::{Child, Column, Row};
-use base::bytes::read_u32;
+use base::bytes::u32_at;
 use opcodes::{Opcode51, RawInstruction51};
 
 // The words that an executable word owns: none, those that bind a child's upvalues, or a SETLIST's extra word. Bindings have their number, and
@@ -49,7 +49,7 @@ pub(crate) fn discover_roles_lua51(
     let mut pc = 0;
     // A `while`: a word goes on by as many words as it owns.
     while pc < n {
-        let companions = claim_of(children, word_at(code, pc));
+        let companions = claim_of(children, u32_at(code, pc));
         write_role(out, pc, Lua51PhysicalRole::Instruction);
         let existing = mark(
             &mut out[ROLE_BYTES * (pc + 1)..ROLE_BYTES * n],
@@ -60,15 +60,6 @@ pub(crate) fn discover_roles_lua51(
         bind_claim(bindings, base, companions, &words);
         pc += 1 + existing;
     }
-}
-
-// The word at pc. (Of a part of four bytes the compiler drops the test for room.)
-#[tactic(auto, using(base::proofs::PartLaws::u32_at_part))]
-pub(crate) fn word_at(code: &[u8], pc: usize) -> u32
-    requires { 4 * pc + 4 ≤ length code.now }
-    ensures { result ≡ u32_at code.now (4 * pc) }
-{
-    read_u32(&code[4 * pc..4 * pc + 4], 0)
 }
 
 // What an executable word of the row owns. An owner is told by the number of its opcode: matched by `Opcode51`, which makes a jump, the roles call

@@ -38,7 +38,7 @@ pub struct Row<'a> {
 
 impl<'a> Row<'a> {
     // A field of it.
-    #[tactic(auto, using(base::proofs::PartLaws::u32_at_part))]
+    #[tactic(auto, using(base::proofs::PartLaws::u32_from_part))]
     pub fn field(&self, column: Column) -> u32
         ensures { result ≡ field_at self.now.table.now self.now.number (column_index column) }
     {

@@ -2,7 +2,7 @@
 use mathlib.Core.Path.{◌≡◌, refl}
 use mathlib.Core.List.{map, flat_map}
 use Rattle.base.specs.Lists.{only}
-use Rattle.base.specs.Bytes.{u32_bytes, u32_record, u32s, u32_at}
+use Rattle.base.specs.Bytes.{u32_bytes, u32_record, u32s, u32_from}
 use Rattle.opcodes.specs.Words.{B, C, is}
 use Rattle.roles_spec.specs.Table.{row_at, rows, below, children, child_at, proto_of, protos_of, protos}
 use Rattle.roles_spec.specs.Roles.{binding_count, has_extra, claims, roles_from, roles, role_at, word_at, executable_at, existing, binding_words, role_fields}
@@ -12,13 +12,13 @@ use Rattle.roles_spec.specs.Calls.{image_bindings, bindings_refusal}
 use Rattle.roles_spec.specs.Examples.{roles_of, bindings_of, examples, refusal_of, refusals}
 
 pub roles_hold : map roles_of examples ≡ map (λ e. e.roles) examples
-unfolding examples roles_of only u32_bytes u32_record u32s u32_at B C is row_at rows below children proto_of protos_of protos binding_count has_extra claims roles_from roles role_fields flat_map
+unfolding examples roles_of only u32_bytes u32_record u32s u32_from B C is row_at rows below children proto_of protos_of protos binding_count has_extra claims roles_from roles role_fields flat_map
 roles_hold = refl
 
 pub bindings_hold : map bindings_of examples ≡ map (λ e. e.bindings) examples
-unfolding examples bindings_of only u32_bytes u32_record u32s u32_at B C is row_at rows below children child_at proto_of protos_of protos binding_count has_extra claims roles_from roles role_at word_at executable_at existing binding_words unbound binding_index binding_of write_of writes_at writes binding_total first_binding set_binding bind_rows bindings binding_fields image_bindings flat_map
+unfolding examples bindings_of only u32_bytes u32_record u32s u32_from B C is row_at rows below children child_at proto_of protos_of protos binding_count has_extra claims roles_from roles role_at word_at executable_at existing binding_words unbound binding_index binding_of write_of writes_at writes binding_total first_binding set_binding bind_rows bindings binding_fields image_bindings flat_map
 bindings_hold = refl
 
 pub refusals_hold : map refusal_of refusals ≡ map (λ e. e.expected) refusals
-unfolding refusals refusal_of only u32_bytes u32_record u32s u32_at B C is row_at rows below children child_at proto_of protos_of binding_count has_extra claims roles_from roles role_at word_at executable_at existing binding_words unbound binding_index binding_of write_of writes_at writes binding_total first_binding set_binding bind_rows bindings image_bindings refuse refuse_if or_else depth_fits bad_depth fields_fit bad_field word_total image_refusal roles_refusal too_short bindings_refusal flat_map
+unfolding refusals refusal_of only u32_bytes u32_record u32s u32_from B C is row_at rows below children child_at proto_of protos_of binding_count has_extra claims roles_from roles role_at word_at executable_at existing binding_words unbound binding_index binding_of write_of writes_at writes binding_total first_binding set_binding bind_rows bindings image_bindings refuse refuse_if or_else depth_fits bad_depth fields_fit bad_field word_total image_refusal roles_refusal too_short bindings_refusal flat_map
 refusals_hold = refl

@@ -7,7 +7,7 @@ use mathlib.Core.List.{List, [], ◌∷◌, map, flat_map}
 use lib.ListN.{length, get_or, take, drop, length-append, length-map, length-take, length-drop, get_or-map}
 use lib.IntN.{ℤ, pos, negsuc}
 use Rattle.base.specs.Lists.{All, all_nil, all_cons, only, up_from}
-use Rattle.base.specs.Bytes.{i32_bits, i32_record, u32_record, u32_at, u32s, overwrite}
+use Rattle.base.specs.Bytes.{i32_bits, i32_record, u32_record, u32_from, u32s, overwrite}
 use Rattle.roles_spec.specs.Table.{Row, rows, Proto, proto_of, protos_of, protos}
 use Rattle.roles_spec.specs.Roles.{Role, Instruction, ClosureBinding, SetlistExtra, binding_count, has_extra, claims, roles_from, roles, role_at, role_fields, records_of}
 use Rattle.roles_spec.specs.Refusals.{word_total}
@@ -18,7 +18,7 @@ use lib.Seq.{length-take-le, take_all, take-length}
 use Rattle.base.proofs.ListLaws.{get_d_flat_map, flat_map_index, length_flat_map}
 use Rattle.roles_spec.proofs.RefusalLaws.{ImageKept}
 use Rattle.roles_spec.proofs.TableLaws.{children_most, length_protos_of}
-use Rattle.base.proofs.ByteLaws.{length_u32s, u32_at_record}
+use Rattle.base.proofs.ByteLaws.{length_u32s, u32_from_record}
 use Rattle.roles_spec.proofs.RoleRecordLaws.{length_role_fields}
 
 -- ---- a role for each word
@@ -64,7 +64,7 @@ Small z = i32_bits z < 2 ^ 32
 
 -- field j of record k
 pub role_field : (ps : List Proto) (old : List ℕ) (k j : ℕ) → All Small (flat_map role_fields (flat_map roles ps)) → k < length (flat_map roles ps) → j < 2 → 8 * length (flat_map roles ps) ≤ length old
-    → u32_at (overwrite old 0 (records_of (flat_map roles ps))) (8 * k + 4 * j) ≡ i32_bits (get_or (role_fields (get_or (flat_map roles ps) k Instruction)) j (pos 0))
+    → u32_from (overwrite old 0 (records_of (flat_map roles ps))) (8 * k + 4 * j) ≡ i32_bits (get_or (role_fields (get_or (flat_map roles ps) k Instruction)) j (pos 0))
 unfolding records_of i32_record i32_bits
 role_field ps old k j small h l fits =
     let all = flat_map roles ps in
@@ -73,8 +73,8 @@ role_field ps old k j small h l fits =
     let index : 2 * k + j ≡ length (flat_map role_fields (take k all)) + j =
     omega (arith, length_flat_map role_fields 2 length_role_fields (take k all), length-take-le k all (omega arith)) in
     let there : 8 * k + 4 * j ≡ 0 + 4 * (2 * k + j) = omega arith in
-    ap (λ (n : ℕ). u32_at (overwrite old 0 (u32_record (map i32_bits zs))) n) there
-    ∙ u32_at_record old 0 (map i32_bits zs) (2 * k + j) (all_map (λ n. n < 2 ^ 32) i32_bits small) (omega arith) (omega arith)
+    ap (λ (n : ℕ). u32_from (overwrite old 0 (u32_record (map i32_bits zs))) n) there
+    ∙ u32_from_record old 0 (map i32_bits zs) (2 * k + j) (all_map (λ n. n < 2 ^ 32) i32_bits small) (omega arith) (omega arith)
     ∙ get_or-map i32_bits zs (2 * k + j) (pos 0)
     ∙ ap i32_bits (ap (λ (n : ℕ). get_or zs n (pos 0)) index ∙ get_d_flat_map role_fields all k j Instruction (pos 0) h (omega (arith, length_role_fields (get_or all k Instruction))))
 
@@ -163,7 +163,7 @@ module _ (table words : List ℕ) (kept : ImageKept table words) where
 
   -- the word at pc of prototype i: both fields of its record, read from a buffer that the roles were written to
   pub role_in_buffer : (old : List ℕ) (i pc j : ℕ) (p : Proto) → 8 * word_total (rows table) ≤ length old → i < length (rows table) → pc < length (get_or (protos table words) i p).code → j < 2
-      → u32_at (overwrite old 0 (records_of (flat_map roles (protos table words)))) (8 * (word_total (take i (rows table)) + pc) + 4 * j)
+      → u32_from (overwrite old 0 (records_of (flat_map roles (protos table words)))) (8 * (word_total (take i (rows table)) + pc) + 4 * j)
       ≡ i32_bits (get_or (role_fields (role_at (get_or (protos table words) i p) pc)) j (pos 0))
   unfolding protos
   role_in_buffer old i pc j p fits h l m =
@@ -171,7 +171,7 @@ module _ (table words : List ℕ) (kept : ImageKept table words) where
       let k = words_before ps i + pc in
       let there : i < length ps = omega (arith, length_protos_of (rows table) (u32s words)) in
       let first : word_total (take i (rows table)) ≡ words_before ps i = sym (words_before_lem (rows table) (u32s words) i enough) in
-      ap (λ (n : ℕ). u32_at (overwrite old 0 (records_of (flat_map roles ps))) (8 * (n + pc) + 4 * j)) first
+      ap (λ (n : ℕ). u32_from (overwrite old 0 (records_of (flat_map roles ps))) (8 * (n + pc) + 4 * j)) first
       ∙ role_field ps old k j (records_small ps limited) (index_below ps i pc p there l) m (omega (arith, length_all_roles))
       ∙ ap (λ (r : Role). i32_bits (get_or (role_fields r) j (pos 0))) (role_at_lem ps i pc p there l)
 

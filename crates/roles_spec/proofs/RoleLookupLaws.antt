@@ -3,7 +3,7 @@ use Rattle.std.proofs.Common.{◌≡◌, ℕ, ◌+◌, ◌-◌, ◌*◌, ◌/◌
 use mathlib.Core.List.{flat_map}
 use mathlib.Core.Option.{Option, none}
 use lib.ListN.{get_or-eq_default}
-use Rattle.base.specs.Bytes.{i32_bits, u32_at, overwrite}
+use Rattle.base.specs.Bytes.{i32_bits, u32_from, overwrite}
 use Rattle.roles_spec.specs.Table.{rows, Proto, protos}
 use Rattle.roles_spec.specs.Roles.{Role, Instruction, ClosureBinding, SetlistExtra, roles, role_at, role_fields, role_bytes, records_of, owner_field, index_field, role_from, role_in}
 use Rattle.roles_spec.specs.Refusals.{Refused, word_total, roles_refusal}
@@ -11,7 +11,7 @@ use Rattle.roles_spec.specs.Calls.{filled, roles_after}
 use Rattle.base.proofs.AllLaws.{all_get_d, all_at}
 use Rattle.roles_spec.proofs.RefusalLaws.{ImageKept, roles_kept}
 use Rattle.base.proofs.ByteLaws.{length_overwrite}
-use Rattle.base.proofs.PartLaws.{u32_at_part}
+use Rattle.base.proofs.PartLaws.{u32_from_part}
 use Rattle.roles_spec.proofs.RoleBufferLaws.{RoleBelow, proto_roles_below, limited, length_protos, last_below, role_in_buffer, length_roles}
 
 -- the two fields tell the role
@@ -46,10 +46,10 @@ module _ (table words : List ℕ) (kept : ImageKept table words) where
         let last : first + (n - 1) < word_total (rows table) = last_below table words kept i p there (n - 1) (omega arith) in
         let size : length records ≡ 8 * n = length-take-le (8 * n) (drop (8 * first) buffer) (omega (arith, length-drop (8 * first) buffer, length_overwrite old 0 (records_of (flat_map roles (protos table words))))) in
         let inside : pc < length records / 8 = omega arith in
-        let owner : u32_at records (8 * pc) ≡ owner_field (role_at q pc) =
-        u32_at_part buffer (8 * first) (8 * n) (8 * pc) (omega arith) ∙ ap (u32_at buffer) (omega arith) ∙ role_in_buffer table words kept old i pc 0 p fits h l (omega arith) in
-        let index : u32_at records (8 * pc + 4) ≡ index_field (role_at q pc) =
-        u32_at_part buffer (8 * first) (8 * n) (8 * pc + 4) (omega arith) ∙ ap (u32_at buffer) (omega arith) ∙ role_in_buffer table words kept old i pc 1 p fits h l (omega arith) in
+        let owner : u32_from records (8 * pc) ≡ owner_field (role_at q pc) =
+        u32_from_part buffer (8 * first) (8 * n) (8 * pc) (omega arith) ∙ ap (u32_from buffer) (omega arith) ∙ role_in_buffer table words kept old i pc 0 p fits h l (omega arith) in
+        let index : u32_from records (8 * pc + 4) ≡ index_field (role_at q pc) =
+        u32_from_part buffer (8 * first) (8 * n) (8 * pc + 4) (omega arith) ∙ ap (u32_from buffer) (omega arith) ∙ role_in_buffer table words kept old i pc 1 p fits h l (omega arith) in
         let small : RoleBelow (2 ^ 31) (role_at q pc) = all_get_d pc Instruction tt (proto_roles_below (2 ^ 31) q (all_at i p there (limited table words kept))) in
         (rw (lt-ltb pc (length records / 8) inside, owner, index)) ∙ fields_tell (role_at q pc) small
 

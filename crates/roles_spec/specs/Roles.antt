@@ -2,7 +2,7 @@
 use Rattle.std.specs.Prelude.{ℕ, suc, ◌+◌, ◌-◌, ◌*◌, ◌/◌, min, Bool, true, false, ◌&&◌, cond, T, eqb, ltb, ◌==◌, nat_lt, length, get_or, slice_index_or, ℤ, pos, negsuc}
 use mathlib.Core.List.{List, [], ◌∷◌, ◌++◌, flat_map}
 use Rattle.base.specs.Lists.{only, tabulate}
-use Rattle.base.specs.Bytes.{i32_bits, u32_at, i32_record}
+use Rattle.base.specs.Bytes.{i32_bits, u32_from, i32_record}
 use Rattle.opcodes.specs.Words.{is, field_bx, operand, C, CLOSURE, SETLIST}
 use Rattle.roles_spec.specs.Table.{Proto}
 
@@ -114,4 +114,4 @@ role_from owner index = cond (owner == 0xffff_ffff) Instruction (cond (index == 
 -- the role of the word at pc, from the records of its prototype. A pc past them counts as executable
 unfoldable pub role_in : List ℕ → ℕ → Role
 role_in records pc =
-    cond (nat_lt pc (length records / role_bytes)) (role_from (u32_at records (role_bytes * pc)) (u32_at records (role_bytes * pc + 4))) Instruction
+    cond (nat_lt pc (length records / role_bytes)) (role_from (u32_from records (role_bytes * pc)) (u32_from records (role_bytes * pc + 4))) Instruction

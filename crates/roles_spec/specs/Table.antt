@@ -4,7 +4,7 @@ use Rattle.std.specs.Prelude.{ℕ, suc, ◌+◌, ◌*◌, ◌/◌, List, [], ◌
 use Rattle.std.proofs.Math.Option.{Option}
 use Rattle.std.proofs.Math.ListN.{get_elem?}
 use Rattle.base.specs.Lists.{tabulate, select, take_while}
-use Rattle.base.specs.Bytes.{u32_at, u32s}
+use Rattle.base.specs.Bytes.{u32_from, u32s}
 
 -- a row of the table with its number: "five a row, one row a part: depth, words, constants, upvalues, stack"
 pub record Row : Type 0 where
@@ -25,7 +25,7 @@ row_bytes = 20
 
 -- field k of row i of a table as bytes
 abbrev pub field_at : List ℕ → ℕ → ℕ → ℕ
-field_at table i k = u32_at table (row_bytes * i + 4 * k)
+field_at table i k = u32_from table (row_bytes * i + 4 * k)
 
 -- row i
 unfoldable pub row_at : List ℕ → ℕ → Row

@@ -1,9 +1,9 @@
 -- The companions of a CLOSURE: what each adds, and that they are those up to the next executable word. Assumes nothing.
-use Rattle.std.proofs.Common.{◌≡◌, ℕ, ◌+◌, ◌-◌, ◌*◌, ◌/◌, ◌<◌, ◌≤◌, Bool, true, false, not, ◌&&◌, ◌||◌, T, eqb, ltb, leb, List, [], ◌∷◌, ◌++◌, length, sym, refl, ap, ◌∙◌, true≢false, append-nil, add-zero, arith, ltb-false, ltb-true, ne_eqb, le-ltb, lt-ltb, leb-false, leb-true}
+use Rattle.std.proofs.Common.{◌≡◌, ℕ, ◌+◌, ◌-◌, ◌/◌, ◌<◌, ◌≤◌, Bool, true, false, not, ◌&&◌, ◌||◌, T, eqb, ltb, leb, List, [], ◌∷◌, ◌++◌, length, get_or, sym, refl, ap, ◌∙◌, true≢false, append-nil, add-zero, arith, ltb-false, ltb-true, ne_eqb, le-ltb, lt-ltb, leb-false, leb-true}
 use mathlib.Core.Bool.{false≢true}
 use mathlib.Core.List.{flat_map, flatten}
 use lib.ListN.{get_or-eq_default}
-use Rattle.base.specs.Bytes.{u32_at}
+use Rattle.base.specs.Bytes.{u32s}
 use Rattle.base.specs.Lists.{elem, only, up_from}
 use Rattle.opcodes.specs.Words.{B, opcode, operand, is, decoded, GETUPVAL, MOVE, CLOSURE, SETLIST}
 use Rattle.opcodes.specs.declared.RawInstruction51.{RawInstruction51}
@@ -69,9 +69,9 @@ module _ (row : ℕ) (q : RowLimits) (pc w : ℕ) (r : RawInstruction51) (split 
       let other : elem r.opcode_num (MOVE ∷ GETUPVAL ∷ []) ≡ false = rw (ne_eqb r.opcode_num MOVE (λ e. omega arith), ne_eqb r.opcode_num GETUPVAL (λ e. omega arith)) in
       rw (adds_17 other, number_of_lem, lt-ltb 37 r.opcode_num above) (f ∙ emits_bits row pc 17 0 s)
 
-binding_by : (p : Proto) (q : RowLimits) (code records : List ℕ) → Describes p q code records → (pc w : ℕ) → pc < length code / 4 → w ≡ u32_at code (4 * pc) → binding_adds q pc w ≡ binding_diagnostics p pc
+binding_by : (p : Proto) (q : RowLimits) (code records : List ℕ) → Describes p q code records → (pc w : ℕ) → pc < length code / 4 → w ≡ get_or (u32s code) pc 0 → binding_adds q pc w ≡ binding_diagnostics p pc
 unfolding binding_diagnostics
-binding_by p q code records d pc w h e = rw (e ∙ word_read p q code records d pc h, d.limits.stack, d.limits.upvalues)
+binding_by p q code records d pc w h e = rw (e ∙ word_read p q code records d pc, d.limits.stack, d.limits.upvalues)
 
 -- ---- all of them
 
@@ -179,7 +179,7 @@ module _ (q : RowLimits) (code records : List ℕ) (pc : ℕ) (s₀ : State) whe
     role_there : (p : Proto) → Describes p q code records → (c : Bool) → b ≡ not c → is_executable (role_at p at) ≡ c
     role_there p d c e = looked_up p q code records d at b c looked e
 
-    pub pass_next : b ≡ true → (t : State) (w : ℕ) → w ≡ u32_at code (4 * at) → t ≡ emit_all q.row (binding_adds q at w) s → BindingPass q code records pc s₀ t (at + 1)
+    pub pass_next : b ≡ true → (t : State) (w : ℕ) → w ≡ get_or (u32s code) at 0 → t ≡ emit_all q.row (binding_adds q at w) s → BindingPass q code records pc s₀ t (at + 1)
     pass_next e t w read added =
         record {
           later = omega (arith, pass.later);

@@ -4,7 +4,7 @@ use Rattle.std.proofs.Common.{◌≡◌, ℕ, zero, suc, ◌+◌, ◌-◌, ◌*�
 use mathlib.Core.Path.{subst⁻¹}
 use mathlib.Core.Bool.{and-false}
 use borrow.Author.Tests.{eqb-false}
-use Rattle.base.specs.Bytes.{u32_at}
+use Rattle.base.specs.Bytes.{u32s}
 use Rattle.base.specs.Lists.{elem, every, only, up_from, all_nil, all_cons}
 use Rattle.opcodes.specs.Words.{Field, B, C, decoded, opcode, operand, field_a, field_bx, is, is_constant, constant_index, without_a, with_sbx, LOADK, GETGLOBAL, SETGLOBAL, GETUPVAL, SETUPVAL, EQ, LT, LE, SELF, FORPREP, FORLOOP, TFORLOOP, CALL, TAILCALL, RETURN, VARARG, SETLIST, CLOSURE, LOADBOOL}
 use Rattle.opcodes.specs.declared.RawInstruction51.{RawInstruction51}
@@ -331,11 +331,11 @@ module _ (p : Proto) (q : RowLimits) (code roles : List ℕ) (d : Describes p q 
   companion_clean b e f = rw (looked_up p q code roles d pc b false e f, and-false)
 
   -- the word that was read
-  pub word_clean : pc < length code / 4 → (b : Bool) → b ≡ not (is_executable (role_in roles pc)) → b ≡ false → (v : ℕ) (w : RawInstruction51) → v ≡ u32_at code (4 * pc) → w ≡ decoded v → w.opcode_num ≤ 37
+  pub word_clean : pc < length code / 4 → (b : Bool) → b ≡ not (is_executable (role_in roles pc)) → b ≡ false → (v : ℕ) (w : RawInstruction51) → v ≡ get_or (u32s code) pc 0 → w ≡ decoded v → w.opcode_num ≤ 37
       → OperandsBelow q w.raw → (s : Shape) → s ≡ names w.opcode_num → FlowKept p s.flow pc w.bx → diagnostics_at p pc ≡ []
   word_clean there b e f v w read split known o s as_list k =
       let again = split_again v w split in
-      let raw : w.raw ≡ word_at p pc = raw_of v w split ∙ read ∙ word_read p q code roles d pc there in
+      let raw : w.raw ≡ word_at p pc = raw_of v w split ∙ read ∙ word_read p q code roles d pc in
       let number : w.opcode_num ≡ opcode (word_at p pc) = split_number w again ∙ ap opcode raw in
       let bx : w.bx ≡ field_bx (word_at p pc) = split_bx w again ∙ ap field_bx raw in
       clean p q pc d.limits (executes p q code roles d pc there b e f) (omega (arith, number)) (subst (OperandsBelow q) raw o)

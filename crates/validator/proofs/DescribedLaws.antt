@@ -1,7 +1,7 @@
 -- What the code is given of a prototype: its words, their number and their roles. Assumes nothing.
-use Rattle.std.proofs.Common.{◌≡◌, ℕ, ◌*◌, ◌/◌, ◌<◌, Bool, true, false, not, List, length, get_or, sym, refl, ap, ◌∙◌}
-use Rattle.base.specs.Bytes.{u32_at}
-use Rattle.base.proofs.ByteLaws.{get_d_u32s, length_u32s}
+use Rattle.std.proofs.Common.{◌≡◌, ℕ, ◌/◌, Bool, true, false, not, List, length, get_or, sym, refl, ap, ◌∙◌}
+use Rattle.base.specs.Bytes.{u32s}
+use Rattle.base.proofs.ByteLaws.{length_u32s}
 use Rattle.roles_spec.specs.Roles.{Role, is_executable, role_at, word_at, role_in}
 use Rattle.roles_spec.specs.Table.{Proto}
 use Rattle.validator.specs.Terms.{Describes}
@@ -17,9 +17,9 @@ module _ (p : Proto) (q : RowLimits) (code records : List ℕ) (d : Describes p 
   pub words_of_lem : length code / 4 ≡ length p.code
   words_of_lem = sym (ap length d.code ∙ length_u32s code)
 
-  pub word_read : (pc : ℕ) → pc < length code / 4 → u32_at code (4 * pc) ≡ word_at p pc
+  pub word_read : (pc : ℕ) → get_or (u32s code) pc 0 ≡ word_at p pc
   unfolding word_at
-  word_read pc h = sym (ap (λ (l : List ℕ). get_or l pc 0) d.code ∙ get_d_u32s code pc h)
+  word_read pc = sym (ap (λ (l : List ℕ). get_or l pc 0) d.code)
 
   -- what the code was told of the role at pc holds of the word's role
   pub looked_up : (pc : ℕ) (b c : Bool) → b ≡ not (is_executable (role_in records pc)) → b ≡ not c → is_executable (role_at p pc) ≡ c

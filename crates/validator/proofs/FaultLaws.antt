@@ -1,12 +1,12 @@
 -- The truncated owner of a prototype: none is truncated but the owner of the last word; and how many words it claims. Assumes nothing.
-use Rattle.std.proofs.Common.{◌≡◌, ℕ, suc, ◌+◌, ◌-◌, ◌*◌, ◌/◌, ◌<◌, ◌≤◌, Bool, true, false, T, leb, List, [], ◌∷◌, length, get_or, drop, pos, sym, refl, ap, ◌∙◌, subst, append-nil, add-zero, zero-add, add-one, arith, length-append, ltb-true, le-ltb, lt-ltb, eq-eqb, ne_eqb, le-leb, leb-false, leb-true}
+use Rattle.std.proofs.Common.{◌≡◌, ℕ, suc, ◌+◌, ◌-◌, ◌/◌, ◌<◌, ◌≤◌, Bool, true, false, T, leb, List, [], ◌∷◌, length, get_or, drop, pos, sym, refl, ap, ◌∙◌, subst, append-nil, add-zero, zero-add, add-one, arith, length-append, ltb-true, le-ltb, lt-ltb, eq-eqb, ne_eqb, le-leb, leb-false, leb-true}
 use mathlib.Core.Path.{subst⁻¹}
 use mathlib.Core.Bool.{and-false}
 use mathlib.Core.List.{flat_map}
 use mathlib.Core.Option as option
 use borrow.Author.Tests.{lt-leb}
 use Rattle.std.specs.Prelude.{Option, Some, None}
-use Rattle.base.specs.Bytes.{u32_at, u32s}
+use Rattle.base.specs.Bytes.{u32s}
 use Rattle.base.specs.Lists.{up_from, tabulate, only}
 use Rattle.opcodes.specs.Words.{is, decoded, operand, field_bx, C, CLOSURE, SETLIST}
 use Rattle.opcodes.specs.declared.RawInstruction51.{RawInstruction51}
@@ -173,7 +173,7 @@ module _ (table : List ℕ) (q : RowLimits) (same : q ≡ row_limits table q.row
     abbrev size : ℕ
     size = length code / 4
 
-    module _ (o w m : ℕ) (r : RawInstruction51) (place : o ≡ last_owner (size - 1) (role_in records (size - 1))) (read : w ≡ u32_at code (4 * o)) (split : r ≡ decoded w)
+    module _ (o w m : ℕ) (r : RawInstruction51) (place : o ≡ last_owner (size - 1) (role_in records (size - 1))) (read : w ≡ get_or (u32s code) o 0) (split : r ≡ decoded w)
         (count : (pc : ℕ) (words : List ℕ) → m ≡ length (claims (proto_in table q.row words) pc r.raw)) where
       words_are : length proto.code ≡ size
       words_are = sym (words_of_lem proto q code records d)
@@ -185,7 +185,7 @@ module _ (table : List ℕ) (q : RowLimits) (same : q ≡ row_limits table q.row
       there = omega (arith, place_is, (owner_of proto (size - 1) (omega (arith, words_are))).after)
 
       bits : word_at proto o ≡ r.raw
-      bits = sym (raw_of w r split ∙ read ∙ word_read proto q code records d o there)
+      bits = sym (raw_of w r split ∙ read ∙ word_read proto q code records d o)
 
       again : r ≡ decoded r.raw
       again = split_again w r split

@@ -3,7 +3,6 @@
 // diagnostics or not. (The functions of `operands` make branches that depend on the opcode: the check took 19.5 ns a word without the table and
 // 9.3 with it, and a transcription with those functions 21.8, with the table 14.9.)
 ghost use Rattle.std.specs.Prelude.{◌≡◌, ℕ, ◌+◌, ◌*◌, ◌/◌, ◌%◌, ◌<◌, ◌≤◌, true, false, [], length, pos, ◌-ℤ◌, nat_le, nat_lt, slice_index, slice_index_or};
-ghost use Rattle.base.specs.Bytes.{u32_at};
 ghost use Rattle.opcodes.specs.Words.{decoded};
 ghost use Rattle.roles_spec.specs.Refusals.{max_word_bytes};
 ghost use Rattle.roles_spec.specs.Roles.{Executable};
@@ -16,7 +15,7 @@ ghost use Rattle.validator.specs.Clean.{FlowKept, OperandsBelow, limits_of, name
 use crate::operands::FLAG_LIMIT;
 use crate::rows::Body;
 use crate::word::{OFFSET_SBX, is_companion};
-use base::bytes::read_u32;
+use base::bytes::u32_at;
 use opcodes::{Opcode51, RawInstruction51};
 
 // The last opcode that is known, by its number: numbers above it have no opcode, and the table of shapes is by number.
@@ -288,7 +287,7 @@ impl<'a> CleanTest<'a> {
         if is_companion(body.roles, pc) {
             return true;
         }
-        let w = RawInstruction51::decode(word_at(body.code, pc));
+        let w = RawInstruction51::decode(u32_at(body.code, pc));
         if LAST_OPCODE < w.opcode_num {
             return false;
         }
@@ -310,14 +309,6 @@ impl<'a> CleanTest<'a> {
             && span_below(stack, shape.b_span, w.a, w.b)
             && span_below(stack, shape.c_span, w.a, w.c)
     }
-}
-
-// The word at pc. (Of a part of four bytes the compiler drops the test for room. `roles` has the same function, not exported, since it has a `requires`.)
-fn word_at(code: &[u8], pc: usize) -> u32
-    requires { 4 * pc + 4 ≤ length code.now }
-    ensures { result ≡ u32_at code.now (4 * pc) }
-{
-    read_u32(&code[4 * pc..4 * pc + 4], 0)
 }
 
 // Whether a value is below this limit.

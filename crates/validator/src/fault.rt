@@ -9,7 +9,7 @@ ghost use Rattle.validator.specs.Rows.{proto_of_row, proto_with};
 ghost use Rattle.validator.specs.Terms.{fault_diagnostics};
 
 use crate::rows::RowBody;
-use base::bytes::read_u32;
+use base::bytes::u32_at;
 use opcodes::{Opcode51, OpcodeField, RawInstruction51};
 use roles::role::role_at;
 use roles::table::{Child, Column, Row, find_child};
@@ -31,7 +31,7 @@ pub fn find_fault(row: &RowBody) -> Option<Lua51RoleFault>
         return None;
     }
     let owner_pc = last_owner(row.body.roles, (n - 1) as u32);
-    let w = RawInstruction51::decode(read_u32(code, 4 * (owner_pc as usize)));
+    let w = RawInstruction51::decode(u32_at(code, owner_pc as usize));
     let owned = owned_words(row, w);
     if (owner_pc as u64) + (owned as u64) < n as u64 {
         return None;

@@ -14,7 +14,7 @@ use crate::codes::Code;
 use crate::operands::{FLAG_LIMIT, KnownWord};
 use crate::rows::{Body, RowLimits};
 use crate::state::{Location, WalkState};
-use base::bytes::{MINUS_ONE, read_u32};
+use base::bytes::{MINUS_ONE, u32_at};
 use opcodes::Field::{B, C};
 use opcodes::{OpMode51, Opcode51, OpcodeField, RawInstruction51};
 use roles::role::role_at;
@@ -31,7 +31,7 @@ pub fn validate_word(walk: WalkState, out: &mut [u8], body: &Body, pc: usize) ->
         row: body.limits.row,
         pc: pc as u32,
     };
-    let w = RawInstruction51::decode(read_u32(body.code, 4 * pc));
+    let w = RawInstruction51::decode(u32_at(body.code, pc));
     let OpcodeField::Known(op) = w.opcode else {
         return walk.emit(out, at, Code::Op001, w.opcode_num as u32);
     };
@@ -134,7 +134,7 @@ fn validate_bindings(mut walk: WalkState, out: &mut [u8], body: &Body, pc: usize
 {
     let mut next = pc + 1;
     while is_companion(body.roles, next) {
-        let word = read_u32(body.code, 4 * next);
+        let word = u32_at(body.code, next);
         let at = Location {
             row: body.limits.row,
             pc: next as u32,

@@ -20,7 +20,7 @@ use Rattle.validator_spec.specs.Diagnostics.{Step, tested_step, untested_step, h
 use Rattle.validator_spec.specs.Walk.{in_row, Walk, max_diagnostics, most_diagnostics, count_n, start, advance, walk_row, walk_from, walk}
 use Rattle.validator_spec.proofs.VerdictLaws.{advance_going}
 use Rattle.validator_spec.proofs.TreeLaws.{Begins, begins, advance_ended, proto_begins}
-use Rattle.base.specs.Bytes.{u32_at, u32_bytes, u32_record}
+use Rattle.base.specs.Bytes.{u32_from, u32_bytes, u32_record}
 use Rattle.roles_spec.specs.Table.{row_at, rows, below, children, proto_of, protos_of, protos}
 use mathlib.Core.Option.{none}
 use Rattle.roles_spec.specs.Refusals.{refuse_if, or_else, depth_fits, bad_depth, fields_fit, bad_field, word_total, image_refusal}
@@ -248,7 +248,7 @@ length_words = length_u32_record (full_code 9999 255) ∙ ap (λ (n : ℕ). 4 * 
 
 full_rows : rows full_table
     ≡ record { row = 0; depth = 0; words = 10255; constants = 0; upvalues = 0; stack = 0 } ∷ record { row = 1; depth = 1; words = 0; constants = 0; upvalues = 255; stack = 0 } ∷ []
-unfolding full_table rows row_at u32_at u32_record u32_bytes flat_map
+unfolding full_table rows row_at u32_from u32_record u32_bytes flat_map
 full_rows = refl
 
 pub fullest_accepted : image_refusal (fullest).table (fullest).words ≡ none

@@ -9,10 +9,10 @@ use lib.ListN.{length, get_or, take, drop, length-map, get_or-map}
 use lib.IntN.{ℤ, pos, negsuc}
 use lib.Seq.{length-take-le, ext_get_or}
 use Rattle.base.specs.Lists.{All, tabulate}
-use Rattle.base.specs.Bytes.{overwrite, u32_at, i32_bits, i32_record}
+use Rattle.base.specs.Bytes.{overwrite, u32_from, i32_bits, i32_record}
 use Rattle.base.proofs.AllLaws.{all_at, all_map, all_flat_map, all_imp}
-use Rattle.base.proofs.ByteLaws.{u32_at_record}
-use Rattle.base.proofs.PartLaws.{next_part, u32_at_part}
+use Rattle.base.proofs.ByteLaws.{u32_from_record}
+use Rattle.base.proofs.PartLaws.{next_part, u32_from_part}
 use Rattle.base.proofs.ListLaws.{get_d_tabulate, length_tabulate, get_d_flat_map, length_flat_map}
 use Rattle.validator_spec.specs.Walk.{RowDiagnostic, diagnostic_fields, diagnostic_bytes}
 use Rattle.validator_spec.proofs.RangeLaws.{Signed32, InRange, signed_bits_below, fields_signed}
@@ -35,7 +35,7 @@ module _ (old : List ℕ) (ds : List RowDiagnostic) (held : All (InRange (2 ^ 31
   written = overwrite old 0 (i32_record (flat_map diagnostic_fields ds))
 
   -- field j of diagnostic i
-  field_read : (i j : ℕ) (d : RowDiagnostic) → i < length ds → j < 4 → u32_at written (16 * i + 4 * j) ≡ i32_bits (get_or (diagnostic_fields (get_or ds i d)) j (pos 0))
+  field_read : (i j : ℕ) (d : RowDiagnostic) → i < length ds → j < 4 → u32_from written (16 * i + 4 * j) ≡ i32_bits (get_or (diagnostic_fields (get_or ds i d)) j (pos 0))
   unfolding i32_record i32_bits
   field_read i j d h k =
       let fields = flat_map diagnostic_fields ds in
@@ -43,8 +43,8 @@ module _ (old : List ℕ) (ds : List RowDiagnostic) (held : All (InRange (2 ^ 31
       let ahead : before ≡ 4 * i = length_flat_map diagnostic_fields 4 four_fields (take i ds) ∙ ap (λ (n : ℕ). 4 * n) (length-take-le i ds (omega arith)) in
       let size : length (map i32_bits fields) ≡ 4 * length ds = length-map fields i32_bits ∙ length_flat_map diagnostic_fields 4 four_fields ds in
       let place : 16 * i + 4 * j ≡ 0 + 4 * (before + j) = omega arith in
-      ap (u32_at written) place
-      ∙ u32_at_record old 0 (map i32_bits fields) (before + j) (all_map (λ n. n < 2 ^ 32) i32_bits (all_imp signed_bits_below (all_flat_map Signed32 diagnostic_fields (all_imp fields_signed held)))) (omega arith) (omega arith)
+      ap (u32_from written) place
+      ∙ u32_from_record old 0 (map i32_bits fields) (before + j) (all_map (λ n. n < 2 ^ 32) i32_bits (all_imp signed_bits_below (all_flat_map Signed32 diagnostic_fields (all_imp fields_signed held)))) (omega arith) (omega arith)
       ∙ get_or-map i32_bits fields (before + j) (pos 0)
       ∙ ap i32_bits (get_d_flat_map diagnostic_fields ds i j d (pos 0) h (omega (arith, four_fields (get_or ds i d))))
 
@@ -52,9 +52,9 @@ module _ (old : List ℕ) (ds : List RowDiagnostic) (held : All (InRange (2 ^ 31
   unfolding diagnostic_in diagnostic_fields i32_bits
   diagnostic_read i d h =
       let r = all_at i d h held in
-      let row : u32_at written (16 * i) ≡ (get_or ds i d).row = ap (u32_at written) (omega arith) ∙ field_read i 0 d h (omega arith) in
-      let pc : signed (u32_at written (16 * i + 4)) ≡ (get_or ds i d).diagnostic.pc = ap signed (field_read i 1 d h (omega arith)) ∙ signed_back _ r.held.pc in
-      let value : signed (u32_at written (16 * i + 12)) ≡ (get_or ds i d).diagnostic.value = ap signed (field_read i 3 d h (omega arith)) ∙ signed_back _ r.held.value in
+      let row : u32_from written (16 * i) ≡ (get_or ds i d).row = ap (u32_from written) (omega arith) ∙ field_read i 0 d h (omega arith) in
+      let pc : signed (u32_from written (16 * i + 4)) ≡ (get_or ds i d).diagnostic.pc = ap signed (field_read i 1 d h (omega arith)) ∙ signed_back _ r.held.pc in
+      let value : signed (u32_from written (16 * i + 12)) ≡ (get_or ds i d).diagnostic.value = ap signed (field_read i 3 d h (omega arith)) ∙ signed_back _ r.held.value in
       rw (row, pc, field_read i 2 d h (omega arith), value)
 
   -- all of them, where four i32 hold each and they fit
@@ -72,8 +72,8 @@ module _ (old : List ℕ) (ds : List RowDiagnostic) (held : All (InRange (2 ^ 31
 record_part : (s : List ℕ) (a k i : ℕ) → 16 * (i + 1) ≤ k → diagnostic_in (take k (drop (16 * a) s)) i ≡ diagnostic_in s (a + i)
 unfolding diagnostic_in
 record_part s a k i h =
-    let word : (j : ℕ) → j + 4 ≤ 16 → u32_at (take k (drop (16 * a) s)) (16 * i + j) ≡ u32_at s (16 * (a + i) + j) = λ j l. u32_at_part s (16 * a) k (16 * i + j) (omega arith) ∙ ap (u32_at s) (omega arith) in
-    let first : u32_at (take k (drop (16 * a) s)) (16 * i) ≡ u32_at s (16 * (a + i)) = u32_at_part s (16 * a) k (16 * i) (omega arith) ∙ ap (u32_at s) (omega arith) in
+    let word : (j : ℕ) → j + 4 ≤ 16 → u32_from (take k (drop (16 * a) s)) (16 * i + j) ≡ u32_from s (16 * (a + i) + j) = λ j l. u32_from_part s (16 * a) k (16 * i + j) (omega arith) ∙ ap (u32_from s) (omega arith) in
+    let first : u32_from (take k (drop (16 * a) s)) (16 * i) ≡ u32_from s (16 * (a + i)) = u32_from_part s (16 * a) k (16 * i) (omega arith) ∙ ap (u32_from s) (omega arith) in
     rw (first, word 4 (omega arith), word 8 (omega arith), word 12 (omega arith))
 
 -- sixteen bytes off the front of what is left after i records: they are record i, and the bytes after i + 1 records are left

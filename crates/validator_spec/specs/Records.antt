@@ -1,6 +1,6 @@
 -- What the records of a diagnostics buffer say. Assumes nothing: these are definitions.
 use Rattle.std.specs.Prelude.{ℕ, ◌+◌, ◌-◌, ◌*◌, ◌^◌, List, cond, ltb, ℤ, pos, negsuc}
-use Rattle.base.specs.Bytes.{u32_at}
+use Rattle.base.specs.Bytes.{u32_from}
 use Rattle.base.specs.Lists.{tabulate}
 use Rattle.validator_spec.specs.Walk.{RowDiagnostic, diagnostic_bytes}
 
@@ -13,8 +13,8 @@ unfoldable pub diagnostic_in : List ℕ → ℕ → RowDiagnostic
 diagnostic_in buffer i =
     let at = diagnostic_bytes * i in
     record {
-      row = u32_at buffer at;
-      diagnostic = record { pc = signed (u32_at buffer (at + 4)); code = u32_at buffer (at + 8); value = signed (u32_at buffer (at + 12)) };
+      row = u32_from buffer at;
+      diagnostic = record { pc = signed (u32_from buffer (at + 4)); code = u32_from buffer (at + 8); value = signed (u32_from buffer (at + 12)) };
     }
 
 -- its first records

@@ -21,8 +21,8 @@ bind_claim-requires-clause-bindable c =
     let stated = c.requires.words_stated in
     let before = c.loop-pc.invariant in
     let m = c.mark-existing.ensures in
-    let owned = subst (λ (r : Row). c.claim_of-companions.result ≡ companions_of r.table.now r.number c.word_at.result) before.of_row c.claim_of-companions.ensures.owned in
-    let step = owner_step _ _ _ stated _ _ _ before.roles_so_far (omega arith) c.requires.roles_fit.1 _ c.word_at.ensures _ owned _ _ _ _ c.write_role.ensures refl (m.value, (m.records_after, m.within_room)) in
+    let owned = subst (λ (r : Row). c.claim_of-companions.result ≡ companions_of r.table.now r.number c.u32_at.result) before.of_row c.claim_of-companions.ensures.owned in
+    let step = owner_step _ _ _ stated _ _ _ before.roles_so_far (omega arith) c.requires.roles_fit.1 _ c.u32_at.ensures _ owned _ _ _ _ c.write_role.ensures refl (m.value, (m.records_after, m.within_room)) in
     let from = subst⁻¹ (BindsFrom c.args.children.now.parent.table.now c.args.children.now.parent.number c.args.base) before.bound_so_far.long c.requires.binds_from in
     bindable_here _ _ _ (code_of _ _ _ stated) _ _ from _ _ _ _ _ _ step
 
@@ -31,10 +31,10 @@ loop-pc-preserved c =
     let stated = c.requires.words_stated in
     let before = c.loop-pc.invariant in
     let m = c.mark-existing.ensures in
-    let owned = subst (λ (r : Row). c.claim_of-companions.result ≡ companions_of r.table.now r.number c.word_at.result) before.of_row c.claim_of-companions.ensures.owned in
-    let step = owner_step _ _ _ stated _ _ _ before.roles_so_far (omega arith) c.requires.roles_fit.1 _ c.word_at.ensures _ owned _ _ _ _ c.write_role.ensures refl (m.value, (m.records_after, m.within_room)) in
+    let owned = subst (λ (r : Row). c.claim_of-companions.result ≡ companions_of r.table.now r.number c.u32_at.result) before.of_row c.claim_of-companions.ensures.owned in
+    let step = owner_step _ _ _ stated _ _ _ before.roles_so_far (omega arith) c.requires.roles_fit.1 _ c.u32_at.ensures _ owned _ _ _ _ c.write_role.ensures refl (m.value, (m.records_after, m.within_room)) in
     record {
-      roles_so_far = pass_next _ _ _ stated _ _ _ before.roles_so_far (omega arith) c.requires.roles_fit.1 _ c.word_at.ensures _ owned _ _ step;
+      roles_so_far = pass_next _ _ _ stated _ _ _ before.roles_so_far (omega arith) c.requires.roles_fit.1 _ c.u32_at.ensures _ owned _ _ step;
       bound_so_far = bind_next _ _ _ (code_of _ _ _ stated) _ _ c.requires.binds_from _ _ _ _ _ _ step _ _ _ before.bound_so_far c.bind_claim.ensures;
       of_row = c.claim_of-companions.ensures.same_parent ∙ before.of_row;
     }

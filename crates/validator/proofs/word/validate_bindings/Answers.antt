@@ -7,7 +7,7 @@ loop-word-init c = pass_begins _ _ _ _ _
 
 pub loop-word-preserved : goal.loop-word-preserved
 loop-word-preserved c =
-    pass_next _ _ _ _ _ _ _ c.loop-word.invariant _ c.is_companion.ensures c.loop-word-test.true _ _ c.read_u32-word.ensures c.validate_binding-walk.ensures
+    pass_next _ _ _ _ _ _ _ c.loop-word.invariant _ c.is_companion.ensures c.loop-word-test.true _ _ c.u32_at-word.ensures c.validate_binding-walk.ensures
 
 pub returns : goal.returns
 returns c = pass_ends _ _ _ _ _ _ _ c.loop-word.invariant _ c.is_companion.ensures c.loop-word-test.false

@@ -26,7 +26,7 @@ goes_to_word-requires c = (omega arith, bx_below _ (split_again _ _ c.decode-w.e
 pub returns-then-operands_below-clause-clean : goal.returns-then-operands_below-clause-clean
 unfolding shapes
 returns-then-operands_below-clause-clean c p d e =
-    word_clean p _ _ _ d _ c.requires _ c.is_companion.ensures c.if-is_companion.false _ _ c.word_at.ensures c.decode-w.ensures c.if-w-gt-LAST_OPCODE.false
+    word_clean p _ _ _ d _ c.requires _ c.is_companion.ensures c.if-is_companion.false _ _ c.u32_at.ensures c.decode-w.ensures c.if-w-gt-LAST_OPCODE.false
     (c.operands_below.ensures c.if-operands_below.true) _ refl (c.goes_to_word.ensures p d.stands e)
 
 pub returns-then-operands_below-clause-executable : goal.returns-then-operands_below-clause-executable

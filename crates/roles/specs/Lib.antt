@@ -1,3 +1,4 @@
+pub mod Bounds
 pub mod Terms
 pub mod BindingSteps
 pub mod Fills

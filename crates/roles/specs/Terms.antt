@@ -1,5 +1,5 @@
 -- What the code's own types stand for: the terms in which its contracts cite the other definitions. Assumes nothing: these are definitions.
-use Rattle.std.specs.Prelude.{◌≡◌, ℕ, zero, suc, ◌+◌, ◌/◌, ◌%◌, ◌^◌, ◌<◌, ◌≤◌, cond, List, [], ◌∷◌, length, drop, slice_index, slice_index_or, slice_range}
+use Rattle.std.specs.Prelude.{◌≡◌, ℕ, zero, suc, ◌+◌, ◌%◌, ◌^◌, ◌<◌, ◌≤◌, cond, List, [], ◌∷◌, length, drop, slice_index, slice_index_or, slice_range}
 use Rattle.std.proofs.Math.Option.{Option, none, some}
 use Rattle.std.specs.declared.option.Option.{Option as Maybe}
 use Rattle.std.specs.declared.option.Option.TheVariants as maybe
@@ -7,11 +7,12 @@ use Rattle.std.specs.declared.result.Result.{Result}
 use Rattle.std.specs.declared.result.Result.TheVariants.{Ok, Err}
 use Rattle.base.specs.Lists.{tabulate, total}
 use Rattle.opcodes.specs.Words.{is, field_bx, CLOSURE}
-use Rattle.roles_spec.specs.Table.{Row, row_bytes, field_at, row_at, rows, child_at, child_of_row, proto_in}
+use Rattle.roles_spec.specs.Table.{Row, field_at, row_at, rows, child_at, child_of_row, proto_in, row_count}
 use Rattle.roles_spec.specs.Roles.{Role, Instruction, ClosureBinding, SetlistExtra, has_extra}
 use Rattle.roles_spec.specs.Bindings.{binding_total}
 use Rattle.roles_spec.specs.Refusals.{Refused}
 use Rattle.roles_spec.specs.Calls.{Answer, refused, accepted}
+use Rattle.roles.specs.Bounds.{CoversRows}
 use Rattle.roles.specs.declared.refusals.Refusal.{Refusal}
 use Rattle.roles.specs.declared.refusals.Refusal.TheVariants as refusal
 use Rattle.roles.specs.declared.table.Child.{Child}
@@ -58,7 +59,7 @@ column_index column.Stack = 4
 
 -- field k of all rows, added up
 unfoldable pub field_total : List ℕ → ℕ → ℕ
-field_total table k = total (tabulate (length table / row_bytes) (λ i. field_at table i k))
+field_total table k = total (tabulate (row_count table) (λ i. field_at table i k))
 
 -- ---- children
 
@@ -82,7 +83,7 @@ in_index index i = found_at (slice_index_or index i (record { row = 0; first = 0
 
 -- it has room for as many children as there are rows
 abbrev pub RoomForChildren : List ℕ → List Entry → Type 0
-RoomForChildren table index = length table / row_bytes ≤ length index
+RoomForChildren table index = CoversRows table (length index)
 
 -- what is known of the children of the prototype in row `parent`: the first `known` of them stand in the index; from row `row` on, its children
 -- are counted from that number; `first` is how many binding records stand between the prototype's own and those of that row, modulo 2 ^ 32; from
@@ -90,7 +91,7 @@ RoomForChildren table index = length table / row_bytes ≤ length index
 pub record Tracks (table : List ℕ) (parent : ℕ) (index : List Entry) (known row first end : ℕ) : Type 0 where
   pub room : RoomForChildren table index
   pub within : known ≤ end
-  pub few : end ≤ length table / row_bytes
+  pub few : end ≤ row_count table
   pub indexed : (i : ℕ) → i < known → in_index index i ≡ child_from table (suc parent) 0 (child_of_row table parent i)
   pub later : parent < row
   pub counts : first ≡ records_between table (suc parent) row % 2 ^ 32

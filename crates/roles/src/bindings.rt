@@ -4,6 +4,7 @@ ghost use Rattle.std.specs.Int.{from_bool};
 ghost use Rattle.base.specs.Bytes.{overwrite, u32_record, u32s};
 ghost use Rattle.roles_spec.specs.Bindings.{binding_bytes, binding_records, unbound};
 ghost use Rattle.roles_spec.specs.Refusals.{max_word_bytes};
+ghost use Rattle.roles.specs.Bounds.{FewWords, HasRecord, HasWord};
 ghost use Rattle.roles.specs.BindingSteps.{Bindable, bound_by, bound_claim, bound_from, max_bindings};
 
 use crate::discovery::Companions;
@@ -31,7 +32,7 @@ pub struct CompanionWords<'a> {
     pub code: &'a [u8],
     pub pc: usize,
     pub existing: usize,
-    ghost there: { (pc + existing < length code.now / 4) × (length code.now ≤ max_word_bytes) },
+    ghost there: { HasWord code.now (pc + existing) × FewWords code.now },
 }
 
 // The words of an owner's companions bind the upvalues of a child, where it is a CLOSURE that has one. Nothing is written to a buffer that has
@@ -75,7 +76,7 @@ fn bind_words(records: &mut [u8], words: &CompanionWords)
 // Told by number, as owners are: with both matched by `Opcode51`, the bindings call on many bindings takes 10.5 ms and not 8.8 (minima of 60 turns).
 #[tactic(auto, using(crate::proofs::BindingStepLaws::bound_move, crate::proofs::BindingStepLaws::bound_getupval, crate::proofs::BindingStepLaws::bound_other))]
 fn bind_word(records: &mut [u8], i: usize, pc: u32, word: u32)
-    requires { binding_bytes * i + binding_bytes ≤ length records.old }
+    requires { HasRecord binding_bytes i records.old }
     ensures { records.new ≡ bound_by i pc word records.old }
 {
     let w = RawInstruction51::decode(word);
@@ -96,7 +97,7 @@ fn binding_index(b: u16) -> u32
 
 // Writes record i.
 fn write_binding(records: &mut [u8], i: usize, instack: bool, index: u32, pc: u32)
-    requires { binding_bytes * i + binding_bytes ≤ length records.old }
+    requires { HasRecord binding_bytes i records.old }
     ensures { records.new ≡ overwrite records.old (binding_bytes * i) (u32_record ((from_bool instack) ∷ index ∷ pc ∷ [])) }
 {
     let record = [u32::from(instack), index, pc];

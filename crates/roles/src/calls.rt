@@ -10,6 +10,7 @@ ghost use Rattle.roles_spec.specs.Table.{proto_in, row_at, row_bytes};
 ghost use Rattle.roles.specs.BindingSteps.{BindsFrom, RoomForAllOrNone, bound_in, bound_rows};
 ghost use Rattle.roles.specs.Terms.{RoomForChildren, answer_of};
 ghost use Rattle.std.specs.declared.result.Result.TheVariants.{Err};
+ghost use Rattle.roles.specs.Bounds.{AcceptedFor};
 ghost use Rattle.roles.specs.declared.refusals.Refusal.TheVariants.{BufferTooShort};
 
 use crate::bindings::{BINDING_BYTES, unbind};
@@ -57,7 +58,7 @@ pub fn write_bindings(
 
 // Refusal 8, for so many records: the roles are written all the same.
 fn refuse_short(table: &[u8], words: &[u8], out: &mut [u8], records: u32) -> Result<u32, Refusal>
-    requires { roles_refusal table.now words.now (length out.old) ≡ none }
+    requires { AcceptedFor table.now words.now out.old }
     ensures value { result ≡ Err (BufferTooShort records) }
     ensures out_after { out.new ≡ roles_after table.now words.now out.old }
 {
@@ -67,7 +68,7 @@ fn refuse_short(table: &[u8], words: &[u8], out: &mut [u8], records: u32) -> Res
 
 // The roles alone, with no buffer for bindings.
 fn fill_roles(table: &[u8], words: &[u8], roles: &mut [u8])
-    requires { roles_refusal table.now words.now (length roles.old) ≡ none }
+    requires { AcceptedFor table.now words.now roles.old }
     ensures { roles.new ≡ roles_after table.now words.now roles.old }
 {
     let mut filling = Filling {

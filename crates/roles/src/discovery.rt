@@ -6,6 +6,7 @@ ghost use Rattle.roles_spec.specs.Bindings.{writes};
 ghost use Rattle.roles_spec.specs.Refusals.{max_rows, max_word_bytes};
 ghost use Rattle.roles_spec.specs.Roles.{ClosureBinding, records_of, role_bytes, roles};
 ghost use Rattle.roles_spec.specs.Table.{proto_in, row_at, row_bytes};
+ghost use Rattle.roles.specs.Bounds.{FewWords, RolesFit};
 ghost use Rattle.roles.specs.BindingSteps.{BindsFrom, bound_in};
 ghost use Rattle.roles.specs.Terms.{RoomForChildren, child_bindings, claimed_roles, companions_of, owned_bindings};
 ghost use Rattle.roles.specs.declared.discovery.Companions.TheVariants.{Extra, None};
@@ -39,7 +40,7 @@ pub(crate) fn discover_roles_lua51(
     base: usize,
 )
     requires words_stated { (row_at children.old.parent.table.now children.old.parent.number).words ≡ length code.now / 4 }
-    requires roles_fit { (length code.now ≤ max_word_bytes) × (2 * length code.now ≤ length out.old) }
+    requires roles_fit { FewWords code.now × RolesFit code.now out.old }
     requires binds_from { BindsFrom children.old.parent.table.now children.old.parent.number base (length bindings.old) }
     ensures out_after { out.new ≡ overwrite out.old 0 (records_of (roles (proto_in children.old.parent.table.now children.old.parent.number (u32s code.now)))) }
     ensures bindings_after { bindings.new ≡ bound_in children.old.parent.table.now children.old.parent.number (writes (proto_in children.old.parent.table.now children.old.parent.number (u32s code.now))) bindings.old }

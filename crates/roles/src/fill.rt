@@ -2,6 +2,7 @@
 ghost use Rattle.std.specs.Prelude.{◌/◌, ◌≤◌, length};
 ghost use Rattle.roles_spec.specs.Refusals.{max_rows};
 ghost use Rattle.roles_spec.specs.Table.{row_bytes};
+ghost use Rattle.roles.specs.Bounds.{CoversRows};
 ghost use Rattle.roles.specs.Fills.{Fills};
 ghost use Rattle.roles.specs.Terms.{RoomForChildren};
 
@@ -27,7 +28,7 @@ impl<'a> Filling<'a> {
 
     // The same with an index of N children.
     fn fill_within<const N: usize>(&mut self)
-        requires room_for_children { (length self.old.table.now / row_bytes ≤ N) × (N ≤ max_rows) }
+        requires room_for_children { CoversRows self.old.table.now N × (N ≤ max_rows) }
         ensures { Fills self.old self.new }
     {
         let mut index = [Entry { row: 0, first: 0 }; N];

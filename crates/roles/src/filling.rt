@@ -2,6 +2,7 @@
 ghost use Rattle.std.specs.Prelude.{◌≡◌, length};
 ghost use Rattle.std.proofs.Math.Option.{none};
 ghost use Rattle.roles_spec.specs.Refusals.{roles_refusal};
+ghost use Rattle.roles.specs.Bounds.{AcceptedFor};
 ghost use Rattle.roles.specs.BindingSteps.{RoomForAllOrNone};
 
 // An accepted image, and the buffers that its roles and its bindings are written to: the latter has room for all records or for none.
@@ -11,6 +12,6 @@ pub(crate) struct Filling<'a> {
     pub bindings: &'a mut [u8],
     pub table: &'a [u8],
     pub words: &'a [u8],
-    ghost accepted: { roles_refusal table.now words.now (length roles.now) ≡ none },
+    ghost accepted: { AcceptedFor table.now words.now roles.now },
     ghost room: { RoomForAllOrNone table.now (length bindings.now) },
 }

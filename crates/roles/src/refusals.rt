@@ -2,6 +2,7 @@
 ghost use Rattle.std.specs.Prelude.{◌≡◌, ◌+◌, ◌*◌, ◌/◌, ◌^◌, ◌<◌, ◌≤◌, ◌||◌, length, nat_lt};
 ghost use Rattle.roles_spec.specs.Refusals.{bad_depth, bad_field, depth_fits, fields_fit, image_refusal, max_rows, max_word_bytes, roles_refusal};
 ghost use Rattle.roles_spec.specs.Table.{row_at, row_bytes, rows};
+ghost use Rattle.roles.specs.Bounds.{FewRows};
 ghost use Rattle.roles.specs.Terms.{column_index, field_total, given_refusal, refused_of};
 
 use crate::role::ROLE_BYTES;
@@ -109,7 +110,7 @@ fn is_too_large(rows: usize, bytes: usize) -> bool
 // theirs. `Row` and `find_child` serve tables of any length, and the search has the fact as a ghost field.)
 #[tactic(auto, using(roles_spec::proofs::RowCheckLaws::depths_end, roles_spec::proofs::RowCheckLaws::depth_refused, roles_spec::proofs::RowCheckLaws::depth_low, roles_spec::proofs::RowCheckLaws::depth_next), unfolding(roles_spec::specs::Refusals::refuse, crate::specs::Terms::refused_of, crate::specs::Terms::given_refusal))]
 fn check_depths(table: &[u8]) -> Result<(), Refusal>
-    requires { length table.now / row_bytes ≤ max_rows }
+    requires { FewRows table.now }
     ensures { given_refusal result ≡ bad_depth 0 0 (rows table.now) }
 {
     let mut least = 0;
@@ -137,7 +138,7 @@ fn depth_fits(row: &Row, least: u32, most: u32) -> bool
 // 5: constants, upvalues and stack of every row within their limits.
 #[tactic(auto, using(roles_spec::proofs::RowCheckLaws::fields_end, roles_spec::proofs::RowCheckLaws::field_refused, roles_spec::proofs::RowCheckLaws::field_next), unfolding(roles_spec::specs::Refusals::refuse, crate::specs::Terms::refused_of, crate::specs::Terms::given_refusal))]
 fn check_fields(table: &[u8]) -> Result<(), Refusal>
-    requires { length table.now / row_bytes ≤ max_rows }
+    requires { FewRows table.now }
     ensures { given_refusal result ≡ bad_field (rows table.now) }
 {
     for number in 0..table.len() / ROW_BYTES {
@@ -161,7 +162,7 @@ fn fields_fit(row: &Row) -> bool
 // The sum of a field over the rows. Each is less than 2^32, so that it fits.
 #[tactic(auto, using(crate::proofs::CountLaws::total_ends, crate::proofs::CountLaws::total_next))]
 pub(crate) fn field_total(table: &[u8], column: Column) -> u64
-    requires { length table.now / row_bytes ≤ max_rows }
+    requires { FewRows table.now }
     ensures value { result ≡ field_total table.now (column_index column) }
     ensures upper_bound { result ≤ 2 ^ 46 }
 {

@@ -2,6 +2,7 @@
 ghost use Rattle.std.specs.Prelude.{◌≡◌, ◌+◌, ◌*◌, ◌≤◌, [], ◌∷◌, length};
 ghost use Rattle.base.specs.Bytes.{overwrite};
 ghost use Rattle.roles_spec.specs.Roles.{index_field, is_executable, owner_field, records_of, role_bytes, role_in};
+ghost use Rattle.roles.specs.Bounds.{HasRecord};
 ghost use Rattle.roles.specs.Terms.{companion_pc, role_of};
 
 use base::bytes::{MINUS_ONE, read_u32, write_record};
@@ -78,7 +79,7 @@ pub fn role_at(roles: &[u8], pc: usize) -> Lua51PhysicalRole
 // Writes the record of the word at pc.
 #[tactic(auto, using(crate::proofs::MarkLaws::record_pasted))]
 pub(crate) fn write_role(roles: &mut [u8], pc: usize, role: Lua51PhysicalRole)
-    requires { role_bytes * pc + role_bytes ≤ length roles.old }
+    requires { HasRecord role_bytes pc roles.old }
     ensures { roles.new ≡ overwrite roles.old (role_bytes * pc) (records_of (role_of role ∷ [])) }
 {
     let record = [role.owner(), role.index()];

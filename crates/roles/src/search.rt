@@ -3,6 +3,7 @@
 ghost use Rattle.std.specs.Prelude.{◌≡◌, suc, ◌-◌, ◌/◌, ◌<◌, ◌≤◌, length};
 ghost use Rattle.roles_spec.specs.Refusals.{max_rows};
 ghost use Rattle.roles_spec.specs.Table.{child_of_row, row_bytes};
+ghost use Rattle.roles.specs.Bounds.{FewRows};
 ghost use Rattle.roles.specs.Terms.{RoomForChildren, Tracks, child_from};
 
 use crate::table::{Child, Column, ROW_BYTES, Row, find_child};
@@ -27,14 +28,14 @@ pub(crate) struct Children<'a> {
     row: usize,
     first: u32,
     end: u32,
-    ghost few_rows: { length parent.table.now / row_bytes ≤ max_rows },
+    ghost few_rows: { FewRows parent.table.now },
     ghost tracks: { Tracks parent.table.now parent.number index.now known row first end },
 }
 
 impl<'a> Children<'a> {
     // Before the first search: whatever the index has, no child is known.
     pub(crate) fn new(parent: Row<'a>, index: &'a mut [Entry]) -> Children<'a>
-        requires few_rows { length parent.table.now / row_bytes ≤ max_rows }
+        requires few_rows { FewRows parent.table.now }
         requires room_for_children { RoomForChildren parent.table.now index.old }
         ensures { result.parent ≡ parent.entry }
     {

@@ -1,6 +1,7 @@
 // The prototype table: rows of five u32, in preorder.
 ghost use Rattle.std.specs.Prelude.{◌≡◌, ◌+◌, ◌*◌, ◌<◌, ◌≤◌, length, drop};
 ghost use Rattle.roles_spec.specs.Table.{child_at, field_at, row_bytes, rows};
+ghost use Rattle.roles.specs.Bounds.{HasRow};
 ghost use Rattle.roles.specs.Terms.{child_from, column_index};
 
 use base::bytes::read_u32;
@@ -33,7 +34,7 @@ pub struct Child {
 pub struct Row<'a> {
     pub table: &'a [u8],
     pub number: usize,
-    ghost there: { row_bytes * number + row_bytes ≤ length table.now },
+    ghost there: { HasRow table.now number },
 }
 
 impl<'a> Row<'a> {

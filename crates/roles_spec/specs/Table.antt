@@ -39,9 +39,13 @@ row_at table i =
       stack = field_at table i 4;
     }
 
+-- how many whole rows a table has
+abbrev pub row_count : List ℕ → ℕ
+row_count table = length table / row_bytes
+
 -- all whole rows
 unfoldable pub rows : List ℕ → List Row
-rows table = tabulate (length table / row_bytes) (row_at table)
+rows table = tabulate (row_count table) (row_at table)
 
 -- the rows below a row of depth d, among those after it: up to "any row of its own depth or less"
 unfoldable pub below : ℕ → List Row → List Row

@@ -5,9 +5,10 @@ use mathlib.Core.List.{foldl}
 use lib.ListN.{length-map}
 use Rattle.base.specs.Bytes.{u32s}
 use Rattle.base.proofs.ByteLaws.{length_u32s}
-use Rattle.roles_spec.specs.Refusals.{max_rows, max_word_bytes, word_total}
+use Rattle.roles_spec.specs.Refusals.{max_rows, word_total}
 use Rattle.roles_spec.specs.Roles.{role_at, role_bytes, role_in}
 use Rattle.roles_spec.specs.Table.{Row, Proto, row_bytes, row_at, rows, children, proto_of, proto_in}
+use Rattle.roles.specs.Bounds.{FewWords, ReachWord}
 use Rattle.roles_spec.proofs.RowPartLaws.{part_length, part_proto}
 use Rattle.roles_spec.proofs.RefusalLaws.{ImageKept, image_kept}
 use Rattle.roles_spec.proofs.TableLaws.{length_rows}
@@ -45,11 +46,11 @@ module _ (table words roles : List ℕ) (w : WalkState) (r : Ready table words r
   row_of = ap (λ (x : RowLimits). x.row) e
 
   -- the row's words and their roles are there
-  pub room : (4 * next ≤ length words) × (role_bytes * next ≤ length roles) × (length words ≤ max_word_bytes)
+  pub room : ReachWord next words roles × FewWords words
   room =
       let kept : ImageKept table words = image_kept table words r.filled.accepted in
       let total : next ≤ word_total (rows table) = omega (arith, words_next table w.row there, words_front (rows table) (suc w.row), r.begins, stated) in
-      (omega (arith, kept.word_count), omega (arith, r.filled.fits), kept.word_limit)
+      ((omega (arith, kept.word_count), omega (arith, r.filled.fits)), kept.word_limit)
 
   -- the parts of the words and of the roles that belong to the row
   abbrev word_part : List ℕ
@@ -59,10 +60,10 @@ module _ (table words roles : List ℕ) (w : WalkState) (r : Ready table words r
   role_part = take (role_bytes * next - role_bytes * w.first) (drop (role_bytes * w.first) roles)
 
   pub part_size : length word_part ≡ 4 * (row_at table w.row).words
-  part_size = part_length table words w.row w.first next stated room.0
+  part_size = part_length table words w.row w.first next stated room.0.0
 
   own_proto : proto_in table w.row (u32s word_part) ≡ proto_in table w.row (drop w.first (u32s words))
-  own_proto = part_proto table words w.row w.first next stated room.0
+  own_proto = part_proto table words w.row w.first next stated room.0.0
 
   words_stated : length (u32s word_part) ≡ (row_at table w.row).words
   words_stated = omega (arith, length_u32s word_part, part_size)

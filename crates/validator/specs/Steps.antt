@@ -1,13 +1,14 @@
 -- What the walk's state and the diagnostics buffer are after each step of the code: the terms of inner contracts. The call's own contract cites none of
 -- them. Assumes nothing: these are definitions.
-use Rattle.std.specs.Prelude.{◌≡◌, ℕ, zero, suc, ◌+◌, ◌-◌, ◌*◌, ◌/◌, ◌%◌, ◌^◌, ◌<◌, ◌≤◌, Bool, true, cond, not, ◌&&◌, ◌||◌, List, [], ◌∷◌, length, take, drop, Option, Some, None, ◌==◌, nat_le, nat_lt}
+use Rattle.std.specs.Prelude.{◌≡◌, ℕ, zero, suc, ◌+◌, ◌-◌, ◌*◌, ◌%◌, ◌^◌, ◌≤◌, Bool, true, cond, not, ◌&&◌, ◌||◌, List, [], ◌∷◌, length, take, drop, Option, Some, None, ◌==◌, nat_le, nat_lt}
 use mathlib.Core.List.{foldl}
 use Rattle.std.proofs.Math.Option.{none}
 use Rattle.base.specs.Bytes.{u32s, u32_record, i32_bits, i32_record, overwrite}
 use Rattle.base.specs.Lists.{any}
-use Rattle.roles_spec.specs.Table.{row_bytes, row_at, rows, proto_in}
+use Rattle.roles_spec.specs.Table.{row_at, rows, proto_in, row_count}
 use Rattle.roles_spec.specs.Roles.{role_at, role_bytes, role_in}
 use Rattle.roles_spec.specs.Refusals.{word_total, image_refusal}
+use Rattle.roles.specs.Bounds.{HasRow}
 use Rattle.validator_spec.specs.Diagnostics.{Diagnostic, Step, proto_steps}
 use Rattle.validator_spec.specs.Walk.{RowDiagnostic, diagnostic_fields, diagnostic_bytes, error_in}
 use Rattle.validator_spec.specs.Image.{Image, image_walk}
@@ -85,11 +86,11 @@ walk_for table words (suc n) d s = cond (nat_le (row_at table s.0.row).depth d) 
 
 -- the rows from the next one on, while they are deeper than d
 unfoldable pub walk_to : List ℕ → List ℕ → ℕ → State → State
-walk_to table words d s = walk_for table words (length table / row_bytes - s.0.row) d s
+walk_to table words d s = walk_for table words (row_count table - s.0.row) d s
 
 -- whether the walk goes on with a row deeper than d
 unfoldable pub goes_on : List ℕ → ℕ → WalkState → Bool
-goes_on table d w = not w.limit && nat_lt w.row (length table / row_bytes) && nat_lt d (row_at table w.row).depth
+goes_on table d w = not w.limit && nat_lt w.row (row_count table) && nat_lt d (row_at table w.row).depth
 
 -- ---- what the code needs
 
@@ -97,7 +98,7 @@ goes_on table d w = not w.limit && nat_lt w.row (length table / row_bytes) && na
 pub record Filled (table words roles : List ℕ) : Type 0 where
   pub accepted : image_refusal table words ≡ none
   pub fits : role_bytes * word_total (rows table) ≤ length roles
-  pub looked_up : (i : ℕ) → i < length table / row_bytes → (pc : ℕ)
+  pub looked_up : (i : ℕ) → HasRow table i → (pc : ℕ)
       → role_in (take (role_bytes * (row_at table i).words) (drop (role_bytes * word_total (take i (rows table))) roles)) pc
       ≡ role_at (proto_in table i (drop (word_total (take i (rows table))) (u32s words))) pc
 

@@ -1,15 +1,16 @@
 -- What the code's own types stand for: the terms in which its contracts cite the definitions of `validator_spec`. Assumes nothing: these are definitions.
-use Rattle.std.specs.Prelude.{◌≡◌, ℕ, suc, ◌+◌, ◌/◌, ◌<◌, ◌≤◌, ◌||◌, List, [], ◌∷◌, length, drop, pos, nat_lt, slice_index, slice_index_or, Option, Some, None, Result, Ok, Err}
+use Rattle.std.specs.Prelude.{◌≡◌, ℕ, suc, ◌+◌, ◌<◌, ◌≤◌, ◌||◌, List, [], ◌∷◌, length, drop, pos, nat_lt, slice_index, slice_index_or, Option, Some, None, Result, Ok, Err}
 use Rattle.std.proofs.Math.Option.{none}
 use Rattle.base.specs.Bytes.{u32s}
 use Rattle.opcodes.specs.Words.{decoded}
 use Rattle.opcodes.specs.declared.Opcode51.{Opcode51}
 use Rattle.opcodes.specs.declared.OpcodeField.TheVariants.{Known}
 use Rattle.opcodes.specs.declared.RawInstruction51.{RawInstruction51}
-use Rattle.roles_spec.specs.Table.{Proto, row_bytes, row_at, rows, children}
+use Rattle.roles_spec.specs.Table.{Proto, row_at, rows, children, row_count}
 use Rattle.roles_spec.specs.Roles.{role_at, role_in}
-use Rattle.roles_spec.specs.Refusals.{bad_depth, max_rows}
+use Rattle.roles_spec.specs.Refusals.{bad_depth}
 use Rattle.roles_spec.specs.Calls.{Answer, refused, accepted}
+use Rattle.roles.specs.Bounds.{CoversRows, FewRows, HasRow}
 use Rattle.roles.specs.Terms.{refused_of}
 use Rattle.roles.specs.declared.refusals.Refusal.{Refusal}
 use Rattle.validator_spec.specs.Diagnostics.{Diagnostic, diagnostic}
@@ -104,22 +105,22 @@ row_limits table i =
 
 -- a list has the number of children of each row
 pub record ChildCounts (table counts : List ℕ) : Type 0 where
-  pub room : length table / row_bytes ≤ length counts
-  pub counted : (i : ℕ) → i < length table / row_bytes → slice_index counts i ≡ child_count table i
+  pub room : CoversRows table (length counts)
+  pub counted : (i : ℕ) → HasRow table i → slice_index counts i ≡ child_count table i
 
 -- the rows are in preorder, and not too many
 pub record Ordered (table : List ℕ) : Type 0 where
   pub depths : bad_depth 0 0 (rows table) ≡ none
-  pub few : length table / row_bytes ≤ max_rows
+  pub few : FewRows table
 
 -- the rows from `row` on were counted: a list has the number of children of each, and a second one, at each depth but 0, how many of them are of this
 -- depth and stand before any that is less deep; at depth 0, at most as many as were counted
 pub record Counted (table : List ℕ) (row : ℕ) (counts pending : List ℕ) : Type 0 where
-  pub room : length table / row_bytes ≤ length counts
+  pub room : CoversRows table (length counts)
   pub deep : length pending ≡ 201
-  pub counted : (i : ℕ) → row ≤ i → i < length table / row_bytes → slice_index counts i ≡ child_count table i
+  pub counted : (i : ℕ) → row ≤ i → HasRow table i → slice_index counts i ≡ child_count table i
   pub opened : (d : ℕ) → d < 200 → slice_index pending (suc d) ≡ length (children d (drop row (rows table)))
-  pub roots : slice_index_or pending 0 0 + row ≤ length table / row_bytes
+  pub roots : slice_index_or pending 0 0 + row ≤ row_count table
 
 -- the limits of a prototype's operands are these
 pub record HasLimits (p : Proto) (q : RowLimits) : Type 0 where

@@ -5,6 +5,7 @@ ghost use Rattle.base.specs.Bytes.{i32_record, overwrite};
 ghost use Rattle.roles_spec.specs.Calls.{accepted, answer, filled, roles_after};
 ghost use Rattle.roles_spec.specs.Refusals.{max_rows, too_short};
 ghost use Rattle.roles_spec.specs.Table.{row_bytes};
+ghost use Rattle.roles.specs.Bounds.{CoversRows};
 ghost use Rattle.validator_spec.specs.Check.{Checked, check_answer, checked, diagnostics_after};
 ghost use Rattle.validator_spec.specs.Image.{diagnostics as found};
 ghost use Rattle.validator_spec.specs.Statements.{Guarantee};
@@ -113,7 +114,7 @@ fn validate_rows(image: &Image, out: &mut [u8]) -> WalkState
 
 // The same, for a table of at most N rows.
 fn validate_within<const N: usize>(image: &Image, out: &mut [u8]) -> WalkState
-    requires rows { length image.now.table.now / row_bytes ≤ N }
+    requires rows { CoversRows image.now.table.now N }
     requires small { N ≤ max_rows }
     ensures { Walked (image_in image.now) out.old (result, out.new) }
 {

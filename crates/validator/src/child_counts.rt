@@ -1,6 +1,7 @@
 // The number of children of each row, counted for all rows at once.
 ghost use Rattle.std.specs.Prelude.{◌+◌, ◌/◌, ◌<◌, ◌≤◌, length};
 ghost use Rattle.roles_spec.specs.Table.{row_bytes};
+ghost use Rattle.roles.specs.Bounds.{CoversRows, HasRow};
 ghost use Rattle.validator.specs.Terms.{ChildCounts, Counted, Ordered};
 
 use roles::refusals::MAX_DEPTH;
@@ -12,7 +13,7 @@ const DEPTHS: usize = MAX_DEPTH as usize + 2;
 // Counts the children of each row, from the last row to the first. For each depth up to one more than the most, `pending` has how many of the rows
 // passed have it and stand before any that is less deep.
 pub fn count_children(table: &[u8], counts: &mut [u32])
-    requires { Ordered table.now × (length table.now / row_bytes ≤ length counts.old) }
+    requires { Ordered table.now × CoversRows table.now (length counts.old) }
     ensures { ChildCounts table.now counts.new }
 {
     let mut pending = [0u32; DEPTHS];
@@ -23,7 +24,7 @@ pub fn count_children(table: &[u8], counts: &mut [u32])
 
 // A row, after all rows behind it: those pending that are one deeper are its children, and it is one more of its own depth.
 fn count_row(table: &[u8], number: usize, counts: &mut [u32], pending: &mut [u32])
-    requires { Ordered table.now × (number < length table.now / row_bytes) × Counted table.now (number + 1) counts.old pending.old }
+    requires { Ordered table.now × HasRow table.now number × Counted table.now (number + 1) counts.old pending.old }
     ensures { Counted table.now number counts.new pending.new }
 {
     let depth = Row { table, number }.field(Column::Depth) as usize;

@@ -7,6 +7,7 @@ ghost use Rattle.opcodes.specs.Words.{decoded};
 ghost use Rattle.roles_spec.specs.Refusals.{max_word_bytes};
 ghost use Rattle.roles_spec.specs.Roles.{Executable};
 ghost use Rattle.roles_spec.specs.Table.{Proto};
+ghost use Rattle.roles.specs.Bounds.{HasWord};
 ghost use Rattle.validator_spec.specs.Diagnostics.{diagnostics_at};
 ghost use Rattle.validator_spec.specs.Rules.{Lands};
 ghost use Rattle.validator.specs.Terms.{Describes, Stands};
@@ -279,7 +280,7 @@ struct CleanTest<'a> {
 impl<'a> CleanTest<'a> {
     // Whether the word at pc is a companion or is found clean.
     fn is_clean(&self, pc: usize) -> bool
-        requires { pc < length self.now.body.now.code.now / 4 }
+        requires { HasWord self.now.body.now.code.now pc }
         ensures clean { (p : Proto) → Describes p self.now.body.now.limits self.now.body.now.code.now self.now.body.now.roles.now → result ≡ true → diagnostics_at p pc ≡ [] }
         ensures executable { (p : Proto) → Describes p self.now.body.now.limits self.now.body.now.code.now self.now.body.now.roles.now → result ≡ false → Executable p pc }
     {

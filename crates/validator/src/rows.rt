@@ -2,7 +2,8 @@
 ghost use Rattle.std.specs.Prelude.{◌≡◌, ◌+◌, ◌*◌, ◌/◌, ◌<◌, ◌≤◌, length};
 ghost use Rattle.base.specs.Bytes.{u32s};
 ghost use Rattle.roles_spec.specs.Refusals.{max_word_bytes};
-ghost use Rattle.roles_spec.specs.Table.{proto_in, row_bytes};
+ghost use Rattle.roles_spec.specs.Table.{proto_in, row_count};
+ghost use Rattle.roles.specs.Bounds.{FewWords, HasRow};
 ghost use Rattle.validator.specs.Steps.{Filled};
 ghost use Rattle.validator.specs.Terms.{ChildCounts, Describes, row_limits};
 
@@ -29,7 +30,7 @@ pub struct Body<'a> {
     pub limits: RowLimits,
     pub code: &'a [u8],
     pub roles: &'a [u8],
-    ghost code_short: { length code.now ≤ max_word_bytes },
+    ghost code_short: { FewWords code.now },
     ghost roles_short: { length roles.now ≤ 2 * max_word_bytes },
 }
 
@@ -56,14 +57,14 @@ pub struct RowBody<'a> {
 impl<'a> CountedImage<'a> {
     // How many rows it has.
     pub fn rows(&self) -> usize
-        ensures { result ≡ length self.now.table.now / row_bytes }
+        ensures { result ≡ row_count self.now.table.now }
     {
         self.table.len() / ROW_BYTES
     }
 
     // The prototype in a row.
     pub fn row_limits(&self, number: usize) -> RowLimits
-        requires { number < length self.now.table.now / row_bytes }
+        requires { HasRow self.now.table.now number }
         ensures { result ≡ row_limits self.now.table.now number }
     {
         let table = self.table;

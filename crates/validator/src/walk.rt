@@ -5,7 +5,8 @@ ghost use Rattle.base.specs.Bytes.{u32s};
 ghost use Rattle.base.specs.Lists.{up_from};
 ghost use Rattle.roles_spec.specs.Refusals.{max_word_bytes};
 ghost use Rattle.roles_spec.specs.Roles.{role_bytes};
-ghost use Rattle.roles_spec.specs.Table.{Proto, proto_in, row_at, row_bytes};
+ghost use Rattle.roles_spec.specs.Table.{Proto, proto_in, row_at, row_count};
+ghost use Rattle.roles.specs.Bounds.{FewWords, HasRow, ReachWord};
 ghost use Rattle.validator_spec.specs.Diagnostics.{diagnostics_at, proto_steps, stack_diagnostics, tested_step};
 ghost use Rattle.validator.specs.Rows.{proto_of_row};
 ghost use Rattle.validator.specs.Terms.{Describes, HasLimits, fault_diagnostics, row_limits};
@@ -28,7 +29,7 @@ const USUAL_STACK: u32 = 250;
 // which is a value that functions take and hand back.)
 #[cycle(walk)]
 pub fn validate_proto(walk: WalkState, counted: &CountedImage, out: &mut [u8]) -> WalkState
-    requires there { walk.row < length counted.now.table.now / row_bytes }
+    requires there { HasRow counted.now.table.now walk.row }
     requires begins { Begins counted.now.table.now walk }
     ensures { (result, out.new) ≡ walk_to counted.now.table.now counted.now.words.now (row_at counted.now.table.now walk.row).depth (step_row counted.now.table.now counted.now.words.now (walk, out.old)) }
 {
@@ -50,7 +51,7 @@ fn validate_children(
     out: &mut [u8],
     depth: u32,
 ) -> WalkState
-    requires within { walk.row ≤ length counted.now.table.now / row_bytes }
+    requires within { walk.row ≤ row_count counted.now.table.now }
     requires begins { Begins counted.now.table.now walk }
     ensures { (result, out.new) ≡ walk_to counted.now.table.now counted.now.words.now depth (walk, out.old) }
 {
@@ -84,10 +85,10 @@ fn validate_row(
     out: &mut [u8],
     limits: RowLimits,
 ) -> WalkState
-    requires there { walk.row < length counted.now.table.now / row_bytes }
+    requires there { HasRow counted.now.table.now walk.row }
     requires begins { Begins counted.now.table.now walk }
     requires limits { limits ≡ row_limits counted.now.table.now walk.row }
-    requires room { (4 * (walk.first + limits.words) ≤ length counted.now.words.now) × (role_bytes * (walk.first + limits.words) ≤ length counted.now.roles.now) × (length counted.now.words.now ≤ max_word_bytes) }
+    requires room { ReachWord (walk.first + limits.words) counted.now.words.now counted.now.roles.now × FewWords counted.now.words.now }
     ensures { (result, out.new) ≡ own_steps counted.now.table.now counted.now.words.now (walk, out.old) }
 {
     let first = walk.first;

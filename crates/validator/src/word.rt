@@ -5,6 +5,7 @@ ghost use Rattle.base.specs.Lists.{only, up_from};
 ghost use Rattle.opcodes.specs.Words.{CLOSURE, is};
 ghost use Rattle.roles_spec.specs.Roles.{Executable, binding_words, is_executable, role_in, word_at};
 ghost use Rattle.roles_spec.specs.Table.{Proto};
+ghost use Rattle.roles.specs.Bounds.{HasWord};
 ghost use Rattle.validator_spec.specs.Diagnostics.{binding_diagnostics, diagnostic, jump_diagnostics, not_below, opcode_value, operand_diagnostics, skip_diagnostics, target_diagnostics, word_diagnostics};
 ghost use Rattle.validator_spec.specs.Operands.{captured_register, captured_upvalue, is_binding, is_skip, skip_target};
 ghost use Rattle.validator.specs.Terms.{Describes, HasLimits, Stands};
@@ -24,7 +25,7 @@ pub const OFFSET_SBX: u32 = RawInstruction51::OFFSET_SBX as u32;
 
 // The word at pc: of an unknown opcode, nothing but that.
 pub fn validate_word(walk: WalkState, out: &mut [u8], body: &Body, pc: usize) -> WalkState
-    requires { pc < length body.now.code.now / 4 }
+    requires { HasWord body.now.code.now pc }
     ensures { (p : Proto) → Describes p body.now.limits body.now.code.now body.now.roles.now → Executable p pc → (result, out.new) ≡ emit_all body.now.limits.row (word_diagnostics p pc (word_at p pc)) (walk, out.old) }
 {
     let at = Location {
@@ -129,7 +130,7 @@ fn validate_operands(
 // their end too.)
 #[tactic(auto, using(crate::proofs::BindingLaws::has_record))]
 fn validate_bindings(mut walk: WalkState, out: &mut [u8], body: &Body, pc: usize) -> WalkState
-    requires { pc < length body.now.code.now / 4 }
+    requires { HasWord body.now.code.now pc }
     ensures { (p : Proto) → Describes p body.now.limits body.now.code.now body.now.roles.now → Executable p pc → T (is (word_at p pc) (CLOSURE ∷ [])) → (result, out.new) ≡ emit_all body.now.limits.row (flat_map (binding_diagnostics p) (up_from (pc + 1) (binding_words p pc))) (walk, out.old) }
 {
     let mut next = pc + 1;

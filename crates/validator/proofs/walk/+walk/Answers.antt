@@ -44,7 +44,7 @@ pub validate_proto-overflow_add-next : goal.validate_proto-overflow_add-next
 validate_proto-overflow_add-next t c =
     let r = ready _ _ _ c.args.walk c.args.counted.now.filled c.requires.begins in
     let m = room _ _ _ _ r c.requires.there _ c.row_limits-limits.ensures in
-    omega (arith, m.0, m.2)
+    omega (arith, m.0.0, m.1)
 
 pub validate_proto-validate_row-own-requires-clause-room : goal.validate_proto-validate_row-own-requires-clause-room
 validate_proto-validate_row-own-requires-clause-room t c = room _ _ _ _ (ready _ _ _ c.args.walk c.args.counted.now.filled c.requires.begins) c.requires.there _ c.row_limits-limits.ensures

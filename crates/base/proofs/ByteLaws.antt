@@ -29,6 +29,13 @@ get_d_u32s s k h = get_d_tabulate (λ i. u32_from s (4 * i)) (length s / 4) k 0 
 pub u32_past_end : (s : List ℕ) (k : ℕ) → length s / 4 ≤ k → get_or (u32s s) k 0 ≡ 0
 u32_past_end s k h = get_or-eq_default (u32s s) 0 (omega (arith, length_u32s s))
 
+-- bytes past the end count as 0
+pub u32_from_past_end : (s : List ℕ) (at : ℕ) → length s ≤ at → u32_from s at ≡ 0
+unfolding u32_from
+u32_from_past_end s at h =
+    let byte : (k : ℕ) → get_or s (at + k) 0 ≡ 0 = λ k. get_or-eq_default s 0 (omega arith) in
+    rw (get_or-eq_default s 0 h, byte 1, byte 2, byte 3)
+
 -- ---- lengths
 
 pub length_u32_bytes : (n : ℕ) → length (u32_bytes n) ≡ 4

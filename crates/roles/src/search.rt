@@ -3,7 +3,7 @@
 ghost use Rattle.std.specs.Prelude.{◌≡◌, suc, ◌-◌, ◌/◌, ◌<◌, ◌≤◌, length};
 ghost use Rattle.roles_spec.specs.Refusals.{max_rows};
 ghost use Rattle.roles_spec.specs.Table.{child_of_row, row_bytes};
-ghost use Rattle.roles.specs.Bounds.{FewRows};
+ghost use Rattle.roles.specs.Bounds.{FewRows, HasRow};
 ghost use Rattle.roles.specs.Terms.{RoomForChildren, Tracks, child_from};
 
 use crate::table::{Child, Column, ROW_BYTES, Row, find_child};
@@ -35,6 +35,7 @@ pub(crate) struct Children<'a> {
 impl<'a> Children<'a> {
     // Before the first search: whatever the index has, no child is known.
     pub(crate) fn new(parent: Row<'a>, index: &'a mut [Entry]) -> Children<'a>
+        requires there { HasRow parent.table.now parent.number }
         requires few_rows { FewRows parent.table.now }
         requires room_for_children { RoomForChildren parent.table.now index.old }
         ensures { result.parent ≡ parent.entry }

@@ -1,11 +1,8 @@
 -- What is found is the child that the CLOSURE names, and its row says how many words it owns.
-use Rattle.std.proofs.Common.{sym, ◌∙◌, ap₂, arith}
+use Rattle.std.proofs.Common.{sym, ◌∙◌, ap₂}
 use Rattle.roles.specs.Terms.{owned_bindings, child_bindings}
 use Rattle.roles.proofs.SearchLaws.{found_child, missing_child}
 use Rattle.roles.proofs.discovery.claim_child.Goals as goal
-
-pub invariant_of-field : goal.invariant_of-field
-invariant_of-field c = omega (arith, (found_child _ _ _ _ _ c.in-Some.ensures.child).there)
 
 pub returns-in-None-clause-owned : goal.returns-in-None-clause-owned
 returns-in-None-clause-owned c = missing_child _ _ _ c.in-None.ensures.child

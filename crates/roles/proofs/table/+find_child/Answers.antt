@@ -14,9 +14,6 @@ returns-then-rows-at t c =
 pub returns-in_err-child : goal.returns-in_err-child
 returns-in_err-child t c = rw c.from_residual.ensures (first_missing _ _ _ _ _ c.in_err-child.ensures)
 
-pub invariant_of-row : goal.invariant_of-row
-invariant_of-row t c = omega (arith, (first_child _ _ _ _ _ _ c.in_ok-child.ensures).there)
-
 pub overflow_add-child : goal.overflow_add-child
 overflow_add-child t c = omega (arith, (first_child _ _ _ _ _ _ c.in_ok-child.ensures).there)
 

@@ -1,11 +1,8 @@
 -- By the row that the search found.
-use Rattle.std.proofs.Common.{sym, ◌∙◌, arith}
+use Rattle.std.proofs.Common.{sym, ◌∙◌}
 use Rattle.roles_spec.specs.Table.{proto_of, proto_in}
 use Rattle.validator.proofs.FaultLaws.{child_found, child_missed}
 use Rattle.validator.proofs.fault.child_upvalues.Goals as goal
-
-pub invariant_of-field : goal.invariant_of-field
-invariant_of-field c = omega (arith, (child_found _ _ c.args.row.now.limits _ _ c.find_child.ensures _ c.in-Some.is).there)
 
 pub returns-in-None : goal.returns-in-None
 unfolding proto_in proto_of

@@ -24,10 +24,6 @@ overflow_add-self-in-Some c =
       (found_child _ _ _ _ _ (next_child _ _ _ _ _ _ _ c.args.self.now.tracks _ _ c.field.ensures c.in-Some.ensures)).there,
     )
 
-pub invariant_of-field : goal.invariant_of-field
-invariant_of-field c =
-    omega (arith, (found_child _ _ _ _ _ (next_child _ _ _ _ _ _ _ c.args.self.now.tracks _ _ c.field.ensures c.in-Some.ensures)).there)
-
 pub invariant_of-self-in-Some : goal.invariant_of-self-in-Some
 invariant_of-self-in-Some c =
     let v = c.args.self.now.tracks in

@@ -2,7 +2,7 @@
 ghost use Rattle.std.specs.Prelude.{◌≡◌, ◌+◌, ◌*◌, ◌/◌, ◌^◌, ◌<◌, ◌≤◌, ◌||◌, length, nat_lt};
 ghost use Rattle.roles_spec.specs.Refusals.{bad_depth, bad_field, depth_fits, fields_fit, image_refusal, max_rows, max_word_bytes, roles_refusal};
 ghost use Rattle.roles_spec.specs.Table.{row_at, row_bytes, rows};
-ghost use Rattle.roles.specs.Bounds.{FewRows};
+ghost use Rattle.roles.specs.Bounds.{FewRows, HasRow};
 ghost use Rattle.roles.specs.Terms.{column_index, field_total, given_refusal, refused_of};
 
 use crate::role::ROLE_BYTES;
@@ -129,6 +129,7 @@ fn check_depths(table: &[u8]) -> Result<(), Refusal>
 // A row's depth is from `least` to `most`, and within the limit.
 #[tactic(auto, unfolding(roles_spec::specs::Refusals::depth_fits, roles_spec::specs::Table::row_at))]
 fn depth_fits(row: &Row, least: u32, most: u32) -> bool
+    requires { HasRow row.now.table.now row.now.number }
     ensures { result ≡ depth_fits least most (row_at row.now.table.now row.now.number) }
 {
     let depth = row.field(Column::Depth);
@@ -152,6 +153,7 @@ fn check_fields(table: &[u8]) -> Result<(), Refusal>
 // A row's constants, upvalues and stack are within their limits.
 #[tactic(auto, unfolding(roles_spec::specs::Refusals::fields_fit, roles_spec::specs::Table::row_at))]
 fn fields_fit(row: &Row) -> bool
+    requires { HasRow row.now.table.now row.now.number }
     ensures { result ≡ fields_fit (row_at row.now.table.now row.now.number) }
 {
     row.field(Column::Constants) <= MAX_CONSTANTS

@@ -28,6 +28,7 @@ pub(crate) struct Children<'a> {
     row: usize,
     first: u32,
     end: u32,
+    ghost there: { HasRow parent.table.now parent.number },
     ghost few_rows: { FewRows parent.table.now },
     ghost tracks: { Tracks parent.table.now parent.number index.now known row first end },
 }

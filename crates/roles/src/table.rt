@@ -1,6 +1,7 @@
 // The prototype table: rows of five u32, in preorder.
 ghost use Rattle.std.specs.Prelude.{◌≡◌, ◌+◌, ◌*◌, ◌<◌, ◌≤◌, length, drop};
-ghost use Rattle.roles_spec.specs.Table.{child_at, field_at, row_bytes, rows};
+ghost use Rattle.roles_spec.specs.Table.{child_at, field_at, row_count, rows};
+ghost use Rattle.roles.specs.Bounds.{HasRow};
 ghost use Rattle.roles.specs.Terms.{child_from, column_index};
 
 use base::bytes::read_u32;
@@ -36,28 +37,17 @@ pub struct Row<'a> {
 }
 
 impl<'a> Row<'a> {
-    // A field of the row. Bytes past the table's end count as 0. (A row that the table has is read from its part of the table: of that the compiler
-    // drops the test for room, and in a loop over the rows the test for the row too.)
+    // A field of the row, or 0 where the table has no such row. (In a loop over the rows the compiler drops the test, and that for room in a row too.)
     #[tactic(auto, using(base::proofs::PartLaws::u32_from_part))]
     pub fn field(&self, column: Column) -> u32
-        ensures { result ≡ field_at self.now.table.now self.now.number (column_index column) }
+        ensures there { HasRow self.now.table.now self.now.number → result ≡ field_at self.now.table.now self.now.number (column_index column) }
+        ensures missing { row_count self.now.table.now ≤ self.now.number → result ≡ 0 }
     {
         if self.table.len() / ROW_BYTES <= self.number {
-            return self.cut_field(column);
+            return 0;
         }
         let at = ROW_BYTES * self.number;
         read_u32(&self.table[at..at + ROW_BYTES], 4 * (column as usize))
-    }
-
-    // The same, wherever the row stands: where the index of the field's first byte is no usize, it is past the end.
-    #[tactic(auto, using(base::proofs::ByteLaws::u32_from_past_end))]
-    fn cut_field(&self, column: Column) -> u32
-        ensures { result ≡ field_at self.now.table.now self.now.number (column_index column) }
-    {
-        if (usize::MAX - ROW_BYTES) / ROW_BYTES < self.number {
-            return 0;
-        }
-        read_u32(self.table, ROW_BYTES * self.number + 4 * (column as usize))
     }
 }
 

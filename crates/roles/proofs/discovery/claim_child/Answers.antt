@@ -11,4 +11,4 @@ pub returns-in-Some-clause-owned : goal.returns-in-Some-clause-owned
 unfolding child_bindings
 returns-in-Some-clause-owned c =
     let f = found_child _ _ _ _ _ c.in-Some.ensures.child in
-    c.binding_words.ensures ∙ ap₂ owned_bindings (c.field.ensures ∙ sym f.upvalues) f.before
+    c.binding_words.ensures ∙ ap₂ owned_bindings (c.field.ensures.there f.there ∙ sym f.upvalues) f.before

@@ -22,5 +22,5 @@ find_child-requires t c = let f = first_child _ _ _ _ _ _ c.in_ok-child.ensures 
 
 pub returns : goal.returns
 returns t c =
-    c.find_child.ensures
-    ∙ (first_child _ _ _ _ _ _ c.in_ok-child.ensures).next _ _ _ c.field.ensures refl c.if-k-eq0.false
+    let f = first_child _ _ _ _ _ _ c.in_ok-child.ensures in
+    c.find_child.ensures ∙ f.next _ _ _ (c.field.ensures.there f.there) refl c.if-k-eq0.false

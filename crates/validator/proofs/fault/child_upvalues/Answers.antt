@@ -10,4 +10,4 @@ returns-in-None c words = child_missed _ _ c.args.row.now.limits _ _ c.find_chil
 
 pub returns-in-Some : goal.returns-in-Some
 unfolding proto_in proto_of
-returns-in-Some c words = let f = child_found _ _ c.args.row.now.limits _ _ c.find_child.ensures _ c.in-Some.is in c.field.ensures ∙ sym f.upvalues
+returns-in-Some c words = let f = child_found _ _ c.args.row.now.limits _ _ c.find_child.ensures _ c.in-Some.is in c.field.ensures.there f.there ∙ sym f.upvalues

@@ -18,36 +18,36 @@ loop-number-init c = record { filled = fill_begins _ _ _ c.args.self.now.accepte
 
 pub overflow_add-base : goal.overflow_add-base
 overflow_add-base c =
-    let next = base_next _ _ _ _ _ _ c.loop-number.invariant.bound (omega arith) _ c.field-in-loop-number.ensures in
+    let next = base_next _ _ _ _ _ _ c.loop-number.invariant.bound (omega arith) _ (c.field-in-loop-number.ensures.there (omega arith)) in
     omega (arith, next, records_front (rows c.args.self.now.table.now) (suc c.loop-number.number), few_records _ _ _ c.args.self.now.accepted)
 
 pub new-children-requires-clause-few_rows : goal.new-children-requires-clause-few_rows
-new-children-requires-clause-few_rows c = (rows_there _ _ _ c.args.self.now.accepted _ _ _ c.loop-number.invariant.filled (omega arith) _ c.field.ensures).1
+new-children-requires-clause-few_rows c = (rows_there _ _ _ c.args.self.now.accepted _ _ _ c.loop-number.invariant.filled (omega arith) _ (c.field.ensures.there (omega arith))).1
 
 pub discover_roles_lua51-requires-clause-words_stated : goal.discover_roles_lua51-requires-clause-words_stated
 discover_roles_lua51-requires-clause-words_stated c =
-    let there = words_there _ _ _ c.args.self.now.accepted _ _ _ c.loop-number.invariant.filled (omega arith) _ c.field.ensures in
-    let n = words_of_lem _ _ _ c.args.self.now.accepted _ _ _ c.loop-number.invariant.filled (omega arith) _ c.field.ensures in
+    let there = words_there _ _ _ c.args.self.now.accepted _ _ _ c.loop-number.invariant.filled (omega arith) _ (c.field.ensures.there (omega arith)) in
+    let n = words_of_lem _ _ _ c.args.self.now.accepted _ _ _ c.loop-number.invariant.filled (omega arith) _ (c.field.ensures.there (omega arith)) in
     let size = part_length c.args.self.now.table.now c.args.self.now.words.now c.loop-number.number c.loop-number.first (c.loop-number.first + c.field.result) (omega (arith, n)) there.1 in
     omega (arith, size, ap (λ (r : Row). (row_at r.table.now r.number).words) c.new-children.ensures)
 
 pub discover_roles_lua51-requires-clause-roles_fit : goal.discover_roles_lua51-requires-clause-roles_fit
 discover_roles_lua51-requires-clause-roles_fit c =
-    let there = words_there _ _ _ c.args.self.now.accepted _ _ _ c.loop-number.invariant.filled (omega arith) _ c.field.ensures in
-    let n = words_of_lem _ _ _ c.args.self.now.accepted _ _ _ c.loop-number.invariant.filled (omega arith) _ c.field.ensures in
+    let there = words_there _ _ _ c.args.self.now.accepted _ _ _ c.loop-number.invariant.filled (omega arith) _ (c.field.ensures.there (omega arith)) in
+    let n = words_of_lem _ _ _ c.args.self.now.accepted _ _ _ c.loop-number.invariant.filled (omega arith) _ (c.field.ensures.there (omega arith)) in
     let size = part_length c.args.self.now.table.now c.args.self.now.words.now c.loop-number.number c.loop-number.first (c.loop-number.first + c.field.result) (omega (arith, n)) there.1 in
     (omega arith, simp (length-take, length-drop) (omega arith))
 
 pub discover_roles_lua51-requires-clause-binds_from : goal.discover_roles_lua51-requires-clause-binds_from
 discover_roles_lua51-requires-clause-binds_from c =
     subst⁻¹ (λ (r : Row). BindsFrom r.table.now r.number (c.loop-number.base + c.field-in-loop-number.result) (length c.loop-number.self.bindings.now)) c.new-children.ensures
-    (binds_from _ _ _ _ _ _ c.loop-number.invariant.bound (omega arith) _ c.field-in-loop-number.ensures (few_records _ _ _ c.args.self.now.accepted) c.args.self.now.room)
+    (binds_from _ _ _ _ _ _ c.loop-number.invariant.bound (omega arith) _ (c.field-in-loop-number.ensures.there (omega arith)) (few_records _ _ _ c.args.self.now.accepted) c.args.self.now.room)
 
 pub loop-number-preserved : goal.loop-number-preserved
 loop-number-preserved c =
     let before = c.loop-number.invariant in
-    let there = words_there _ _ _ c.args.self.now.accepted _ _ _ c.loop-number.invariant.filled (omega arith) _ c.field.ensures in
-    let n = words_of_lem _ _ _ c.args.self.now.accepted _ _ _ c.loop-number.invariant.filled (omega arith) _ c.field.ensures in
+    let there = words_there _ _ _ c.args.self.now.accepted _ _ _ c.loop-number.invariant.filled (omega arith) _ (c.field.ensures.there (omega arith)) in
+    let n = words_of_lem _ _ _ c.args.self.now.accepted _ _ _ c.loop-number.invariant.filled (omega arith) _ (c.field.ensures.there (omega arith)) in
     let stated : c.loop-number.first + (row_at c.args.self.now.table.now c.loop-number.number).words ≡ c.loop-number.first + c.field.result = omega (arith, n) in
     let proto = part_proto c.args.self.now.table.now c.args.self.now.words.now _ _ _ stated there.1 in
     let e = c.discover_roles_lua51.ensures in
@@ -60,9 +60,9 @@ loop-number-preserved c =
     record {
       same_roles = before.same_roles;
       same_bindings = before.same_bindings;
-      filled = fill_next _ _ _ c.args.self.now.accepted _ _ _ c.loop-number.invariant.filled (omega arith) _ c.field.ensures _ (part_written _ _ _ _ _ stated there.1 _ _ there.2 roles_written);
+      filled = fill_next _ _ _ c.args.self.now.accepted _ _ _ c.loop-number.invariant.filled (omega arith) _ (c.field.ensures.there (omega arith)) _ (part_written _ _ _ _ _ stated there.1 _ _ there.2 roles_written);
       bound =
-          rows_next _ _ _ _ _ _ before.bound (omega arith) _ c.field-in-loop-number.ensures _ _ before.filled.before
+          rows_next _ _ _ _ _ _ before.bound (omega arith) _ (c.field-in-loop-number.ensures.there (omega arith)) _ _ before.filled.before
           (bindings_written ∙ ap (λ p. bound_in c.args.self.now.table.now c.loop-number.number (writes p) c.loop-number.self.bindings.now) proto);
     }
 

@@ -4,4 +4,4 @@ use Rattle.roles.proofs.SearchLaws.{begins}
 use Rattle.roles.proofs.search.Children.new.Goals as goal
 
 pub invariant_of-result : goal.invariant_of-result
-invariant_of-result c = record { few_rows = c.requires.few_rows; tracks = begins _ _ _ _ refl c.requires.room_for_children }
+invariant_of-result c = record { there = c.requires.there; few_rows = c.requires.few_rows; tracks = begins _ _ _ _ refl c.requires.room_for_children }

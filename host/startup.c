@@ -1,5 +1,5 @@
 /* How a controller's start-up code uses libluad51.a: it checks the script image in its flash, and starts the script
- * only on a pass. All memory is static. Given a number, that bit of the image's words is flipped first.
+ * only on a pass. All memory is static. With a number as its argument it first flips this bit of the image's words.
  *     cc -std=c99 -O2 -Iinclude -o startup host/startup.c crates/luad51/out/libluad51.a
  *     ./startup; echo "exit status $?"; ./startup 1155; echo "exit status $?"
  * Exit status: 0 the script was started, 1 it was not, 2 no such bit. These commands print host/startup.out.
@@ -40,7 +40,7 @@
  *       for i = 1, #cells do bleed(i, cells[i] > limit) end
  *     end
  */
-static const uint8_t protos[] = {
+static const uint8_t table[] = {
     ROW(0, 7, 2, 0, 3),  /* the script */
     ROW(1, 12, 2, 0, 7), /* lowest */
     ROW(1, 19, 2, 2, 9), /* balance, with lowest and margin as upvalues */
@@ -91,7 +91,7 @@ static void print_diagnostics(uint32_t count)
 /* Whether the image may run. Diagnostics that do not fit are no pass. */
 static bool check(void)
 {
-    uint64_t result = luad51_check(protos, sizeof protos, words, sizeof words, 0, 0, roles, sizeof roles, diagnostics,
+    uint64_t result = luad51_check(table, sizeof table, words, sizeof words, 0, 0, roles, sizeof roles, diagnostics,
                                    sizeof diagnostics);
     if (luad51_refusal(result) != LUAD51_ACCEPTED) {
         print_refusal("check", result);
@@ -116,8 +116,8 @@ static void print_binding(int32_t row, int32_t upvalue, const struct luad51_bind
 static void print_bindings(void)
 {
     size_t record = 0;
-    for (size_t row = 0; row < sizeof protos / LUAD51_ROW_BYTES; row++) {
-        int32_t upvalues = luad51_i32(protos + row * LUAD51_ROW_BYTES + 12);
+    for (size_t row = 0; row < sizeof table / LUAD51_ROW_BYTES; row++) {
+        int32_t upvalues = luad51_i32(table + row * LUAD51_ROW_BYTES + 12);
         for (int32_t i = 0; i < upvalues; i++) {
             struct luad51_binding bound = luad51_binding_at(bindings, record++);
             print_binding((int32_t)row, i, &bound);
@@ -129,7 +129,7 @@ static void print_bindings(void)
 static bool bind_upvalues(void)
 {
     uint64_t result =
-        luad51_bindings(protos, sizeof protos, words, sizeof words, roles, sizeof roles, bindings, sizeof bindings);
+        luad51_bindings(table, sizeof table, words, sizeof words, roles, sizeof roles, bindings, sizeof bindings);
     if (luad51_refusal(result) != LUAD51_ACCEPTED) {
         print_refusal("bindings", result);
         return false;

@@ -1,7 +1,7 @@
 /* Roles of Lua 5.1 instruction words, bindings of upvalues, and the check of an image: the C interface of libluad51.a.
  *
  * An image is two byte slices. All numbers in slices and buffers have their least byte first; no alignment is needed.
- *   prototype table  a row a prototype, in preorder, of LUAD51_ROW_BYTES: five u32
+ *   prototype table  one row for each prototype, in preorder, of LUAD51_ROW_BYTES: five u32
  *                      depth      0 in row 0; later from 1 to the depth of the row before plus 1
  *                      words      number of the prototype's instruction words
  *                      constants  at most LUAD51_MAX_CONSTANTS
@@ -32,14 +32,14 @@
  *
  * The result of a call is figure + 2^32 * refusal + 2^40 * verdict, and of an accepted luad51_check 2^47 more: it sets
  * bit LUAD51_CHECKED_BIT, and nothing else does. Bits 48 to 63 are 0. A pass (luad51_passed) has that bit alone above
- * its figure: a result that nobody set (0), one of another call, a refused one and a number with any of bits 48 to 63
- * are none.
+ * its figure. These are no passes: a result that nobody set (0), one of another call, a refused one, and a number with
+ * any of bits 48 to 63.
  *   accepted  refusal LUAD51_ACCEPTED; the figure is the number of role records, one for each word, or, of
  *             luad51_bindings, the number of binding records, one for each upvalue of each row, or, of luad51_check,
  *             the number of diagnostics; the verdict is that of luad51_check, and 0 of the other calls
- *   refused   refusal 1 to 7, of luad51_bindings and luad51_check 1 to 8; the figure is the first guilty row for
- *             LUAD51_BAD_DEPTH and LUAD51_FIELD_OVER_LIMIT, the number of records needed for LUAD51_BUFFER_TOO_SHORT,
- *             otherwise 0; the verdict is 0 and says nothing
+ *   refused   refusal 1 to 7, of luad51_bindings and luad51_check 1 to 8; the figure is the first row that breaks its
+ *             rule for LUAD51_BAD_DEPTH and LUAD51_FIELD_OVER_LIMIT, the number of records needed for
+ *             LUAD51_BUFFER_TOO_SHORT, otherwise 0; the verdict is 0 and says nothing
  * An accepted call writes its records to the front of its buffers and leaves what lies past them unchanged. A refused
  * call leaves its buffers untouched, except that with LUAD51_BUFFER_TOO_SHORT the role records are written, as by an
  * accepted call. So a call with a role buffer that fits and an empty buffer for the call's own records tells how many
@@ -49,7 +49,7 @@
  * that are instructions, with every operand that they name in range, and leaves only at RETURN, TAILCALL or past the
  * last word. It says nothing of
  *   types    FORLOOP without its FORPREP takes any register for a number, and Lua's VM gives an address as one
- *   Lua's VM what this does past the last word, or with a word after a test that is no JMP
+ *   Lua's VM what it does past the last word, or where the word after a test is no JMP
  *   content  about half of all single flipped bits leave an image that passes too: a checksum is still wanted
  * docs/DIFFERENCES.md has these cases and the others in which luad, Lua's own check and Lua's VM differ.
  */
@@ -71,14 +71,14 @@ extern "C" {
 #define LUAD51_MAX_UPVALUES 255
 #define LUAD51_MAX_STACK 255
 
-/* Most records that a call can have; of role records it is LUAD51_MAX_WORDS. */
+/* The most binding and diagnostic records of a call. It has at most LUAD51_MAX_WORDS role records. */
 #define LUAD51_MAX_BINDINGS 4177920  /* LUAD51_MAX_ROWS rows of LUAD51_MAX_UPVALUES */
 #define LUAD51_MAX_DIAGNOSTICS 10255 /* LUAD51_DIAGNOSTIC_LIMIT - 1, and a word that has 256 */
 
-/* The bit of a result that an accepted luad51_check sets, and nothing else. */
+/* The bit of a result that only an accepted luad51_check sets. */
 #define LUAD51_CHECKED_BIT 47
 
-/* Incoming and new diagnostics together with which luad51_check ends. */
+/* luad51_check ends where incoming and new diagnostics together are this many. */
 #define LUAD51_DIAGNOSTIC_LIMIT 10000
 
 /* Sizes in bytes. */
@@ -128,8 +128,8 @@ enum luad51_code {
     L51_REG_SPAN_001 = 11, /* no such register at the end of a span; value: that register */
     L51_REG_002 = 12,      /* no such register B; value: B */
     L51_REG_003 = 13,      /* no such register C; value: C */
-    L51_CONST_004 = 14,    /* B names a constant that there is not; value: its index */
-    L51_CONST_005 = 15,    /* C names a constant that there is not; value: its index */
+    L51_CONST_004 = 14,    /* B names a missing constant; value: its index */
+    L51_CONST_005 = 15,    /* C names a missing constant; value: its index */
     L51_PROTO_002 = 16,    /* CLOSURE without a child Bx; value: Bx */
     L51_CLOSURE_002 = 17   /* binding word that is neither MOVE nor GETUPVAL; value: its opcode, or -1 above 37 */
 };

@@ -44,25 +44,25 @@ function answer(number, figure) {
 /^words / { words = hexList(3, NF) }
 /^wtail / { wtail = hexBytes($2) }
 /^buffers / { room = $2; bindingRoom = $3; diagnostic_room = $4 }
-/^roles / { rolesNumber = $2; roles = answer($2, $3); roleBuffer = untouched(room) }
-/^bindings / { bindingsNumber = $2; bindings = answer($2, $3); bindingBuffer = untouched(bindingRoom) }
+/^roles / { rolesNumber = $2; roles = answer($2, $3); role_buffer = untouched(room) }
+/^bindings / { bindingsNumber = $2; bindings = answer($2, $3); binding_buffer = untouched(bindingRoom) }
 /^check / {
-    checkNumber = $2; diagnosticBuffer = untouched(diagnostic_room)
+    checkNumber = $2; diagnostic_buffer = untouched(diagnostic_room)
     check = $2 == 0 ? "(accepted (record { verdict = " $4 "; count = " $3 " }))" : answer($2, $3)
 }
-/^R / { role_fields = integers(3, NF); if (rolesNumber == 0) roleBuffer = written(room) }
-/^B / { binding_fields = integers(3, NF); if (bindingsNumber == 0) bindingBuffer = written(bindingRoom) }
+/^R / { role_fields = integers(3, NF); if (rolesNumber == 0) role_buffer = written(room) }
+/^B / { binding_fields = integers(3, NF); if (bindingsNumber == 0) binding_buffer = written(bindingRoom) }
 /^D / {
     records = "(some (record { roles = " role_fields "; bindings = " binding_fields "; diagnostics = " integers(3, NF) " }))"
-    if (checkNumber == 0) diagnosticBuffer = written(diagnostic_room)
+    if (checkNumber == 0) diagnostic_buffer = written(diagnostic_room)
 }
 /^$/ {
     print "    -- " name
     print "    " (count++ ? "∷ " : "") "record {"
     print "      image = record { table = u32_record " table " ++ " tail "; words = u32_record " words " ++ " wtail "; warnings = " warnings "; errors = " errors " };"
-    print "      role_length = " room "; binding_length = " bindingRoom "; diagnosticLength = " diagnostic_room ";"
+    print "      role_length = " room "; binding_length = " bindingRoom "; diagnostic_length = " diagnostic_room ";"
     print "      expected = record { roles = " roles "; bindings = " bindings "; check = " check ";"
-    print "        roleBuffer = " roleBuffer "; bindingBuffer = " bindingBuffer "; diagnosticBuffer = " diagnosticBuffer ";"
+    print "        role_buffer = " role_buffer "; binding_buffer = " binding_buffer "; diagnostic_buffer = " diagnostic_buffer ";"
     print "        records = " records " };"
     print "    }"
 }

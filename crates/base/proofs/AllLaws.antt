@@ -1,4 +1,4 @@
--- Laws of a property of each of a list. Assumes nothing.
+-- Laws of a property that each element of a list has. Assumes nothing.
 use Prim.Native.Nat.{ℕ, zero, suc, ◌+◌, ◌<◌}
 use native.Mathlib.Nat.{not-suc-le-zero, le_of_suc-le-suc, add-zero, add-suc, zero-add, suc-add}
 use native.Mathlib.Omega.{arith}
@@ -55,7 +55,7 @@ module _ {A : Type 0} {P : A → Type 0} where
   flatten_all [] h = all_nil
   flatten_all (l ∷ L) h = all_cons (all_left l (flatten L) h) (flatten_all L (all_right l h))
 
--- ---- of some of a list
+-- ---- of some elements of a list
 
 module _ {A : Type 0} {P : A → Type 0} (f : A → Bool) where
   pub all_select : {xs : List A} → All P xs → All P (select f xs)

@@ -138,7 +138,7 @@ module _ {A : Type 0} (f : A → List ℤ) where
       ∙ ap u32_record (map-append i32_bits (flat_map f xs) (flat_map f ys))
       ∙ u32_record_append (map i32_bits (flat_map f xs)) (map i32_bits (flat_map f ys))
 
-  -- a buffer with some, and more written right after them
+  -- a buffer with some records, and more written right after them
   pub i32_record_next : (old m new : List ℕ) (at to : ℕ) (xs ys : List A) → to ≡ at + length (i32_record (flat_map f xs)) → at + length (i32_record (flat_map f xs)) + length (i32_record (flat_map f ys)) ≤ length old
       → m ≡ overwrite old at (i32_record (flat_map f xs)) → new ≡ overwrite m to (i32_record (flat_map f ys)) → new ≡ overwrite old at (i32_record (flat_map f (xs ++ ys)))
   i32_record_next old m new at to xs ys start room e d =
@@ -217,7 +217,7 @@ u32s_record ns b =
 
 -- ---- the test before a write
 
--- where it fails nothing is written
+-- where the test fails, nothing is written
 pub no_room : (old : List ℕ) (at count : ℕ) (new : List ℕ) (r : Bool) → length new ≡ 4 * count → r ≡ leb (at + 4 * count) (length old) → r ≡ false → old ≡ overwrite old at new
 no_room old at count new r k e f =
     let h = leb-false (at + 4 * count) (length old) (sym e ∙ f) in

@@ -3,4 +3,4 @@ pub mod ByteLaws
 pub mod ListLaws
 pub mod PartLaws
 pub mod SignedLaws
-pub mod TestLaws
+pub mod BoolLaws

@@ -19,14 +19,14 @@ get_d_map_up_from f i zero k d h = absurd (not-suc-le-zero h)
 get_d_map_up_from f i (suc n) zero d h = ap f (sym (add-zero i))
 get_d_map_up_from f i (suc n) (suc k) d h = get_d_map_up_from f (suc i) n k d (le_of_suc-le-suc h) ∙ ap f (suc-add i k ∙ sym (add-suc i k))
 
--- a list given by its values has so many of them, and value k is f k
+-- tabulate n f has n values, and value k is f k
 pub length_tabulate : {A : Type 0} (f : ℕ → A) (n : ℕ) → length (tabulate n f) ≡ n
 length_tabulate f n = length-map (up_from 0 n) f ∙ length_up_from 0 n
 
 pub get_d_tabulate : {A : Type 0} (f : ℕ → A) (n k : ℕ) (d : A) → k < n → get_or (tabulate n f) k d ≡ f k
 get_d_tabulate f n k d h = get_d_map_up_from f 0 n k d h ∙ ap f (zero-add k)
 
--- one value more, and the first m of them
+-- one value more, and the first m values
 map_up_from_next : {A : Type 0} (f : ℕ → A) (i n : ℕ) → map f (up_from i (suc n)) ≡ map f (up_from i n) ++ (f (i + n) ∷ [])
 map_up_from_next f i zero = rw add-zero
 map_up_from_next f i (suc n) = ap (λ (l : List _). f i ∷ l) (map_up_from_next f (suc i) n ∙ rw (suc-add, add-suc))
@@ -69,7 +69,7 @@ module _ {A B : Type 0} (f : A → List B) where
   flat_map_append [] ys = refl
   flat_map_append (x ∷ xs) ys = ap (λ (l : List B). f x ++ l) (flat_map_append xs ys) ∙ sym (append_assoc (f x) (flat_map f xs) (flat_map f ys))
 
-  -- element j of that of entry k, counted over all of them
+  -- element j of the list of entry k, by its index in the whole list
   pub get_d_flat_map : (xs : List A) (k j : ℕ) (e : A) (d : B) → k < length xs → j < length (f (get_or xs k e))
       → get_or (flat_map f xs) (length (flat_map f (take k xs)) + j) d ≡ get_or (f (get_or xs k e)) j d
   unfolding flat_map
@@ -81,7 +81,7 @@ module _ {A B : Type 0} (f : A → List B) where
       ∙ get_or-append-add (f x) (flat_map f xs) (length (flat_map f (take k xs)) + j) d
       ∙ get_d_flat_map xs k j e d (le_of_suc-le-suc h) l
 
-  -- it is one of them
+  -- that index is in the whole list
   pub flat_map_index : (xs : List A) (k j : ℕ) (e : A) → k < length xs → j < length (f (get_or xs k e)) → length (flat_map f (take k xs)) + j < length (flat_map f xs)
   unfolding flat_map
   flat_map_index [] k j e h l = absurd (not-suc-le-zero h)
@@ -89,7 +89,7 @@ module _ {A B : Type 0} (f : A → List B) where
   flat_map_index (x ∷ xs) (suc k) j e h l =
       omega (arith, length-append (f x) (flat_map f (take k xs)), length-append (f x) (flat_map f xs), flat_map_index xs k j e (le_of_suc-le-suc h) l)
 
-  -- all of one size
+  -- where the list of each entry has the same length
   pub length_flat_map : (m : ℕ) → ((x : A) → length (f x) ≡ m) → (xs : List A) → length (flat_map f xs) ≡ m * length xs
   unfolding flat_map
   length_flat_map m size [] = sym (mul-zero m)

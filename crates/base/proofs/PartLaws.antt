@@ -18,7 +18,7 @@ u32_from_part s a k i h =
     let first : get_or (take k (drop a s)) i 0 ≡ get_or s (a + i) 0 = get_or-take k (drop a s) i 0 (omega arith) ∙ get_or-drop a s i 0 in
     rw (first, byte 1 (omega arith), byte 2 (omega arith), byte 3 (omega arith))
 
--- n u32 from the one of index a on
+-- n u32 from index a on
 pub u32s_part : (s : List ℕ) (a n : ℕ) → 4 * (a + n) ≤ length s → u32s (take (4 * n) (drop (4 * a) s)) ≡ take n (drop a (u32s s))
 u32s_part s a n h =
     let part = take (4 * n) (drop (4 * a) s) in
@@ -54,7 +54,7 @@ module _ (front part rest : List ℕ) (i : ℕ) (new : List ℕ) (fits : i + len
       ∙ ap₂ (λ (l r : List ℕ). l ++ new ++ r) (sym before) (sym after)
       ∙ sym (overwrite_fits whole (length front + i) new (omega (arith, whole_length)))
 
--- a list by one of its parts
+-- a list put together from a part and what lies around it
 pub by_part : (xs : List ℕ) (a k : ℕ) → take a xs ++ (take k (drop a xs) ++ drop k (drop a xs)) ≡ xs
 by_part xs a k = ap (λ (l : List ℕ). take a xs ++ l) (take-append-drop k (drop a xs)) ∙ take-append-drop a xs
 

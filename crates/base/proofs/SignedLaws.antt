@@ -9,7 +9,7 @@ use mir.Syntax.{Width, w32}
 use mir.Val.{SFits, hbits, of_z}
 use Rattle.base.specs.Bytes.{i32_bits}
 
--- a difference of two naturals, each of the positive half of a width, fits the width
+-- the difference of two naturals fits a width where each is below half of it
 module _ (w : Width) (a b : ℕ) (ha : a < 2 ^ hbits w) (hb : b < 2 ^ hbits w) where
   by : (t : Bool) → SFits w (cond t (negsuc (suc b - suc a)) (pos (a - suc b)))
   by true = record { sfits = omega arith }
@@ -18,7 +18,7 @@ module _ (w : Width) (a b : ℕ) (ha : a < 2 ^ hbits w) (hb : b < 2 ^ hbits w) w
   pub sub_fits : SFits w (sub_ℕ a (suc b))
   sub_fits = by (ltb a (suc b))
 
--- the bits are those that the machine has
+-- the bits of an i32 are the machine's
 pub i32_bits_machine : (z : ℤ) → i32_bits z ≡ of_z w32 z
 unfolding i32_bits
 i32_bits_machine (pos n) = refl

@@ -7,7 +7,7 @@ use Rattle.base.specs.Lists.{tabulate}
 unfoldable pub u32_from : List ℕ → ℕ → ℕ
 u32_from s at = get_or s at 0 + get_or s (at + 1) 0 * 0x100 + get_or s (at + 2) 0 * 0x1_0000 + get_or s (at + 3) 0 * 0x100_0000
 
--- all the u32 of a byte list, end to end: "four bytes each". Bytes past the last whole one count for nothing
+-- all the u32 of a byte list, end to end: "four bytes each". Bytes past the last whole u32 are left out
 unfoldable pub u32s : List ℕ → List ℕ
 u32s s = tabulate (length s / 4) (λ i. u32_from s (4 * i))
 
@@ -31,7 +31,7 @@ u32_record ns = flat_map u32_bytes ns
 unfoldable pub i32_record : List ℤ → List ℕ
 i32_record zs = u32_record (map i32_bits zs)
 
--- a buffer once `new` was written to it from index `at` on: "what lies past the records is unchanged", and so is what lies before them.
+-- a buffer after `new` is written to it from index `at` on: "what lies past the records is unchanged", and so is what lies before them.
 -- A write that does not fit changes nothing
 unfoldable pub overwrite : List ℕ → ℕ → List ℕ → List ℕ
 overwrite old at new = cond (leb (at + length new) (length old)) (take at old ++ new ++ drop (at + length new) old) old

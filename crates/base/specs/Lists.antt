@@ -1,7 +1,7 @@
 -- Tests and lists that the other files share. Assumes nothing: these are definitions.
 use Rattle.std.specs.Prelude.{ℕ, zero, suc, ◌+◌, Bool, true, false, ◌&&◌, ◌||◌, List, [], ◌∷◌, map, eqb}
 
--- x is one of a list
+-- x is in a list
 abbrev pub elem : ℕ → List ℕ → Bool
 elem x [] = false
 elem x (y ∷ ys) = eqb x y || elem x ys
@@ -26,7 +26,7 @@ module _ {ℓ} {A : Type ℓ} where
   only true x = x ∷ []
   only false x = []
 
-  -- x before a list where a test passes: the list goes on without it, or ends, where it fails
+  -- x and then xs, where a test passes; where it fails, `keep_if` gives xs and `go_on_if` gives nothing
   abbrev pub keep_if : Bool → A → List A → List A
   keep_if true x xs = x ∷ xs
   keep_if false x xs = xs
@@ -35,32 +35,32 @@ module _ {ℓ} {A : Type ℓ} where
   go_on_if true x xs = x ∷ xs
   go_on_if false x xs = []
 
-  -- those of a list that pass a test
+  -- the elements that pass a test
   abbrev pub select : (A → Bool) → List A → List A
   select f [] = []
   select f (x ∷ xs) = keep_if (f x) x (select f xs)
 
-  -- those before the first that fails a test
+  -- the elements before the first that fails a test
   abbrev pub take_while : (A → Bool) → List A → List A
   take_while f [] = []
   take_while f (x ∷ xs) = go_on_if (f x) x (take_while f xs)
 
-  -- one of a list passes a test
+  -- an element passes a test
   abbrev pub any : (A → Bool) → List A → Bool
   any f [] = false
   any f (x ∷ xs) = f x || any f xs
 
-  -- each of a list passes a test
+  -- each element passes a test
   abbrev pub every : (A → Bool) → List A → Bool
   every f [] = true
   every f (x ∷ xs) = f x && every f xs
 
--- P holds of each of a list
+-- P holds of each element of a list
 pub data All {A : Type 0} (P : A → Type 0) : List A → Type 0 where
   all_nil : All P []
   all_cons : {x : A} {xs : List A} → P x → All P xs → All P (x ∷ xs)
 
--- P holds of one of a list
+-- P holds of an element of a list
 pub data Some {A : Type 0} (P : A → Type 0) : List A → Type 0 where
   here : {x : A} {xs : List A} → P x → Some P (x ∷ xs)
   there : {x : A} {xs : List A} → Some P xs → Some P (x ∷ xs)

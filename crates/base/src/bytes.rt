@@ -17,8 +17,8 @@ pub fn read_u32(s: &[u8], at: usize) -> u32
     }
 }
 
-// The u32 number i of those that stand end to end in s, or 0 past the last whole one. (It is read from the part of four bytes that it is, of which the
-// compiler drops the test for room.)
+// Number i of the u32 that stand end to end in s, or 0 past the last whole one. (It is read from a part of four bytes: the compiler then drops the
+// test for room.)
 pub fn u32_at(s: &[u8], i: usize) -> u32
     ensures { result ≡ get_or (u32s s.now) i 0 }
 {
@@ -35,7 +35,7 @@ pub fn write_u32(out: &mut [u8], at: usize, x: u32)
     write_record(out, at, &[x]);
 }
 
-// Writes the four bytes of v from `at` on, where they fit. A trait for both kinds of number would be longer than this line.
+// Writes the four bytes of v from `at` on, where they fit. A trait for u32 and i32 would be longer than this function.
 #[tactic(auto, unfolding(crate::specs::Bytes::i32_bytes))]
 pub fn write_i32(out: &mut [u8], at: usize, v: i32)
     ensures { out.new ≡ overwrite out.old at (i32_bytes v) }
@@ -43,7 +43,7 @@ pub fn write_i32(out: &mut [u8], at: usize, v: i32)
     write_u32(out, at, i32_bits(v));
 }
 
-// Writes a record of any number of u32 from `at` on, where it fits as a whole. A record of i32 is that of their bits.
+// Writes a record, of any number of u32, from `at` on, where all of it fits. An i32 in a record is given by its bits.
 pub fn write_record(out: &mut [u8], at: usize, values: &[u32])
     ensures { out.new ≡ overwrite out.old at (u32_record values.now) }
 {
@@ -71,7 +71,7 @@ fn has_room(len: usize, at: usize, count: usize) -> bool
     at <= len && count <= (len - at) / 4
 }
 
-// The u32 of all the bytes of s, which are fewer than four. Those that are missing count as 0.
+// The u32 of all bytes of s, of which there are fewer than four. Missing bytes count as 0.
 #[tactic(auto, unfolding(crate::specs::Bytes::u32_from))]
 fn cut_u32(s: &[u8]) -> u32
     ensures { result ≡ u32_from s.now 0 }

@@ -1,4 +1,4 @@
-// What the other crates share and no word is part of: numbers in bytes, in src/bytes.rt; lists and their laws, in specs/ and proofs/.
+// What the other crates share, apart from instruction words: numbers in bytes, in src/bytes.rt; lists and their laws, in specs/ and proofs/.
 #![tactic(auto)]
 
 pub mod bytes;

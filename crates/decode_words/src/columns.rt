@@ -29,7 +29,7 @@ fn print_fields(rt: &impl Print, w: RawInstruction51) -> io::Result<()> {
     print_column(rt, w.sbx)
 }
 
-// Whether B, or C, is a constant's, and which.
+// Whether B, or C, names a constant, and which one.
 fn print_constant(rt: &impl Print, w: RawInstruction51, field: Field) -> io::Result<()> {
     print_flag(rt, w.is_k(field))?;
     print_column(rt, w.index_k(field))
@@ -56,13 +56,13 @@ fn print_opcode(rt: &impl Print, op: Opcode51) -> io::Result<()> {
     print_operand(rt, op, Field::C)
 }
 
-// And of B, or of C, alone.
+// What an opcode says of B alone, or of C.
 fn print_operand(rt: &impl Print, op: Opcode51, field: Field) -> io::Result<()> {
     print_flag(rt, op.is_fixed_register(field))?;
     print_flag(rt, op.is_rk(field))
 }
 
-// Yes as 1, no as 0.
+// A flag as 1 or 0.
 fn print_flag(rt: &impl Print, flag: bool) -> io::Result<()> {
     print_column(rt, u8::from(flag))
 }

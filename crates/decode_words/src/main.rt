@@ -5,19 +5,19 @@
 mod columns;
 mod listing;
 
-use input::{INPUT_LEN, read_full};
+use input::{INPUT_BYTES, read_full};
 use listing::{LINE_BYTES, parse_line};
 use std::io;
 
 fn main(rt: HostRuntime) {
     // An array: no more is read, and no memory is taken from a heap.
-    let mut text = [0u8; INPUT_LEN];
+    let mut text = [0u8; INPUT_BYTES];
     let got = read_full(&mut rt.reader(), &mut text);
     // An output that cannot be written is not reported.
     let _ = print_listing(&rt, &text[..got]);
 }
 
-// The number of the first line that is not in form, counted from 1, or the lines of the words.
+// Prints the lines of the words, or, where a line is malformed, the number of the first such line, counted from 1.
 fn print_listing(rt: &impl Print, text: &[u8]) -> io::Result<()> {
     let malformed = text
         .chunks(LINE_BYTES)

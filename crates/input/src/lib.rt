@@ -7,11 +7,11 @@ ghost use Rattle.std.specs.Io.KnownBytes.{Consumes};
 use std::io::Read;
 
 // The most bytes of an input that a program reads.
-pub const INPUT_LEN: usize = 65536;
+pub const INPUT_BYTES: usize = 65536;
 
 // Reads until the buffer is full, the input ends or a read fails, and returns how many bytes it put at the buffer's start.
 // No clause says which of the three it was: the result does not tell a failed read from an end, and `Read` has no term for a reader that fails.
-// A loop of its own: it goes on by what a read gives, and std's `read_exact` says little of the bytes before an end or a failure.
+// (Not std's `read_exact`: its contract says little of the bytes before an end or a failure.)
 pub fn read_full<R: Read>(input: &mut R, buffer: &mut [u8]) -> usize
     ensures bound { result ≤ length buffer.new }
     ensures bytes { Consumes (R.remaining input.old) (R.remaining input.new) (take result buffer.new) }
@@ -31,7 +31,7 @@ mod tests {
     use super::*;
     use std::io;
 
-    // Gives a byte a read, counting down, and then fails.
+    // Gives one byte at each read, counting down, and then fails.
     #[derive(Drop)]
     struct Countdown {
         left: u8,

@@ -20,7 +20,7 @@ use Rattle.std.specs.Prelude.{Result, Ok, Err}
 use Rattle.validator.specs.Terms.{answer_of, checked_of}
 use Rattle.validator.specs.declared.calls.Validation.{Validation}
 use Rattle.listing_spec.specs.Listing.{done}
-use Rattle.listing_spec.specs.Packcheck.{answer_text, diagnostic_room, max_diagnostics, output_text, refusal_text, result_text, role_room}
+use Rattle.listing_spec.specs.Packcheck.{answer_text, diagnostic_room, max_listing_diagnostics, output_text, refusal_text, result_text, role_room}
 use Rattle.validator_spec.specs.Records.{diagnostics_in}
 use Rattle.validator_spec.proofs.RecordLaws.{diagnostics_read}
 
@@ -38,11 +38,11 @@ module _ (i : Image) (c : Checked) (e : check_answer i role_room diagnostic_room
   unfolding check_refusal
   all_fit = fits (length (diagnostics i)) diagnostic_bytes diagnostic_room (or_else_none _ _ not_refused).1
 
-  -- its diagnostics are no more than the program has room for
-  pub accepted_count : (length (diagnostics i) ≤ max_diagnostics) × (c.count ≤ max_diagnostics)
+  -- the program has room for all diagnostics of the image
+  pub accepted_count : (length (diagnostics i) ≤ max_listing_diagnostics) × (c.count ≤ max_listing_diagnostics)
   accepted_count = (omega (arith, all_fit), omega (arith, count_is, all_fit))
 
-  -- and are those in the buffer
+  -- the buffer has the diagnostics of the image
   diagnostics_are : (old new : List ℕ) → length old ≡ diagnostic_room → new ≡ diagnostics_after i role_room old → diagnostics_in new c.count ≡ diagnostics i
   unfolding diagnostics_after filled
   diagnostics_are old new long after =
@@ -62,7 +62,7 @@ module _ (i : Image) (r : Result Validation Refusal) (answered : answer_of r ≡
     unfolding answer_of
     accepted_is = sym answered ∙ ap answer_of e
 
-    pub result_count : v.count ≤ max_diagnostics
+    pub result_count : v.count ≤ max_listing_diagnostics
     unfolding checked_of
     result_count = (accepted_count i (checked_of v) accepted_is).1
 

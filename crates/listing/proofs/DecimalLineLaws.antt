@@ -95,7 +95,7 @@ module _ (text digits after : List ℕ) (size left : ℕ) (count : size ≡ leng
         go true e = cc
         go false e = cc
 
--- ---- in the loop: number i of so many
+-- ---- in the loop: number i of `count`
 
 module _ (line numbers text : List ℕ) (count i : ℕ) (more : i < count) (inv : decimals count line ≡ parsed (take i numbers) (decimals (count - i) text)) where
   -- the number and those after it

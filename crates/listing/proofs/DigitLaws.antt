@@ -13,7 +13,7 @@ use lib.ListN.{length, get_or, take, drop, drop_of_length-le}
 use lib.Seq.{drop-cons, length-take-le}
 use borrow.Author.Tests.{lt-ltb, le-ltb, leb-true, leb-false, eq-eqb, ne_eqb}
 use Rattle.base.specs.Lists.{every}
-use Rattle.base.proofs.TestLaws.{t_and, t_true}
+use Rattle.base.proofs.BoolLaws.{t_and, t_true}
 use Rattle.listing_spec.proofs.TextLaws.{value_least}
 use Rattle.listing_spec.specs.Text.{is_digit, is_hex_digit, is_decimal, digit_value, value_of}
 use Rattle.listing_spec.specs.Listing.{hex_word}
@@ -25,7 +25,7 @@ use Rattle.listing.specs.Terms.{as_u32, decimal_of}
 abbrev worth : ℕ → ℕ → ℕ → ℕ
 worth base n d = n * base + digit_value d
 
--- what the digits from an index on make of a value
+-- the value after the digits from an index on, from a value before them
 unfoldable pub value_from : ℕ → ℕ → List ℕ → ℕ
 value_from base n ds = foldl (worth base) n ds
 
@@ -49,7 +49,7 @@ value_last base n i ds h k inv = rw (inv ∙ ap (foldl (worth base) n) (drop_of_
 value_grows : (base n : ℕ) (ds : List ℕ) → 1 ≤ base → n ≤ foldl (worth base) n ds
 value_grows base n ds h = le_trans (le-mul_of_pos_right n (one-le-pow (length ds) base h)) (value_least base n ds)
 
--- so that too large a value stays one
+-- so a value that is too large stays too large
 pub too_large : (base n i : ℕ) (ds : List ℕ) → value_of base ds ≡ value_from base n (drop i ds) → i < length ds → 1 ≤ base → 2 ^ 32 ≤ n * base + digit_value (get_or ds i 0) → none ≡ as_u32 (value_of base ds)
 unfolding value_from as_u32
 too_large base n i ds inv inside h k =
@@ -97,7 +97,7 @@ hex_worth c t = go (leb 48 c && leb c 57) refl t
     go true e u = let below = leb-true c 57 (t_true _ (t_and (leb 48 c) (leb c 57) (subst⁻¹ T e tt)).1) in omega arith
     go false e u = let below = leb-true c 102 (t_true _ (t_and (leb 97 c) (leb c 102) u).1) in omega arith
 
--- and each makes a value at most 16 times as large
+-- so each makes a value plus 1 at most 16 times as large
 hex_bound : (n : ℕ) (ds : List ℕ) → T (every is_hex_digit ds) → suc (foldl (worth 16) n ds) ≤ suc n * 16 ^ length ds
 hex_bound n [] t = omega arith
 hex_bound n (d ∷ ds) t =

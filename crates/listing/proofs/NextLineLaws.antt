@@ -27,7 +27,7 @@ lines_cons c (d ∷ cs) = go (eqb c newline) (lines_cons d cs)
     go true more = refl
     go false more = ap (join_first c) more
 
--- the line that is taken from a text, and those of the rest
+-- the line that is taken from a text, and the lines of the rest
 pub first_line : (text line rest : List ℕ) (size : ℕ) → 0 < length text → size ≡ line_length text → line ≡ take size text → rest ≡ drop size text → lines text ≡ line ∷ lines rest
 first_line [] line rest size some e front back = absurd (omega arith)
 first_line (c ∷ cs) line rest size some e front back = rw (front, back, e) (lines_cons c cs)
@@ -48,10 +48,10 @@ line_is (c ∷ cs) = go (eqb c newline) (line_is cs)
     go true more = omega arith
     go false more = omega arith
 
--- it ends past its newline
+-- the first line ends past its newline
 pub line_ends : (text : List ℕ) (at : ℕ) → Some at ≡ position (λ c. eqb c newline) text → at + 1 ≡ line_length text
 line_ends text at e = let e' = line_is text in grind (arith, common_steps)
 
--- or with the text
+-- where there is no newline, it ends with the text
 pub line_cut : (text : List ℕ) → None ≡ position (λ c. eqb c newline) text → length text ≡ line_length text
 line_cut text e = let e' = line_is text in grind (arith, common_steps)

@@ -18,14 +18,15 @@ use Rattle.base.specs.Bytes.{overwrite, u32_from}
 use Rattle.base.specs.Lists.{tabulate, every}
 use Rattle.base.proofs.ByteLaws.{length_overwrite, overwrite_fits, overwrite_none, overwrite_next}
 use Rattle.base.proofs.ListLaws.{length_tabulate, tabulate_next, flat_map_append}
-use Rattle.base.proofs.TestLaws.{t_and, by_cond}
+use Rattle.base.proofs.BoolLaws.{t_and, by_cond}
 use Rattle.roles_spec.specs.Refusals.{Refused}
 use Rattle.validator_spec.specs.Check.{Checked}
+use Rattle.validator_spec.specs.Diagnostics.{code_count}
 use Rattle.validator_spec.specs.Walk.{Verdict, ValidForParser, Incomplete, Invalid, RowDiagnostic}
-use Rattle.listing_spec.specs.Text.{newline, space, text, line, digits, decimal, integer}
-use Rattle.listing_spec.specs.Packcheck.{code_names, code_name, verdict_name, refusal_text, diagnostic_text, result_text}
+use Rattle.listing_spec.specs.Text.{newline, space, text, line, digits, decimal, integer, longest_number}
+use Rattle.listing_spec.specs.Packcheck.{code_names, code_name, verdict_name, refusal_text, diagnostic_text, result_text, diagnostic_names, longest_name, verdict_names}
 use Rattle.listing.specs.declared.printer.Printer.{Printer}
-use Rattle.listing.specs.Terms.{Prints, longest_diagnostic, longest_answer}
+use Rattle.listing.specs.Terms.{Prints, longest_diagnostic, longest_answer, code_room, signed_room, number_room, verdict_room, refusal_room}
 use Rattle.validator_spec.specs.Records.{signed, diagnostic_in, diagnostics_in}
 
 -- ---- one after the other
@@ -94,19 +95,19 @@ digits_end most n p = omega (arith, p.ends, length_digits most n)
 
 length_decimal : (n : ℕ) → length (decimal n) ≤ 10
 unfolding decimal
-length_decimal n = length_digits 10 n
+length_decimal n = length_digits longest_number n
 
-length_integer : (z : ℤ) → length (integer z) ≤ 11
+length_integer : (z : ℤ) → length (integer z) ≤ number_room
 unfolding integer text
 length_integer (pos n) = omega (arith, length_decimal n)
 length_integer (negsuc n) = omega (arith, length_decimal (suc n))
 
 -- where a number and a byte end
-pub number_end : {old new : Printer} (n b : ℕ) → Prints old (decimal n ++ (b ∷ [])) new → new.end ≤ old.end + 11
+pub number_end : {old new : Printer} (n b : ℕ) → Prints old (decimal n ++ (b ∷ [])) new → new.end ≤ old.end + number_room
 number_end n b p = omega (arith, p.ends, length-append (decimal n) (b ∷ []), length_decimal n)
 
 -- where a signed number and a byte end
-pub signed_end : {old new : Printer} (z : ℤ) (b : ℕ) → Prints old (integer z ++ (b ∷ [])) new → new.end ≤ old.end + 12
+pub signed_end : {old new : Printer} (z : ℤ) (b : ℕ) → Prints old (integer z ++ (b ∷ [])) new → new.end ≤ old.end + signed_room
 signed_end z b p = omega (arith, p.ends, length-append (integer z) (b ∷ []), length_integer z)
 
 -- the bits of a number that is not negative
@@ -114,8 +115,8 @@ pub prints_positive : {old new : Printer} (bits b : ℕ) → bits < 2 ^ 31 → P
 unfolding signed integer
 prints_positive bits b h p = rw (lt-ltb bits (2 ^ 31) h) p
 
--- those of a negative one, after its sign
-pub prints_negative : {old mid new : Printer} (bits b : ℕ) → 2 ^ 31 ≤ bits → old.end + 12 ≤ length old.out.now
+-- the bits of a negative number, after its sign
+pub prints_negative : {old mid new : Printer} (bits b : ℕ) → 2 ^ 31 ≤ bits → old.end + signed_room ≤ length old.out.now
     → Prints old (45 ∷ []) mid → Prints mid (decimal (0xffff_ffff - bits + 1) ++ (b ∷ [])) new → Prints old (integer (signed bits) ++ (b ∷ [])) new
 unfolding signed integer text
 prints_negative bits b h room p q =
@@ -123,23 +124,23 @@ prints_negative bits b h room p q =
 
 -- ---- the names of the codes
 
--- each of a list passes a test, and so does what stands past its end
+-- what stands at an index passes a test, where each element of the list and the default past its end pass it
 every_get_d : {A : Type 0} (f : A → Bool) (xs : List A) (k : ℕ) (d : A) → T (f d) → T (every f xs) → T (f (get_or xs k d))
 every_get_d f [] k d e t = e
 every_get_d f (x ∷ xs) zero d e t = (t_and (f x) (every f xs) t).0
 every_get_d f (x ∷ xs) (suc k) d e t = every_get_d f xs k d e (t_and (f x) (every f xs) t).1
 
 -- no name is longer
-pub length_name : (code : ℕ) → length (text (code_name code)) ≤ 16
+pub length_name : (code : ℕ) → length (text (code_name code)) ≤ longest_name
 unfolding code_name code_names text
-length_name code = leb→le _ 16 (every_get_d (λ s. leb (length (text s)) 16) code_names (code - 1) "" tt tt)
+length_name code = leb→le _ longest_name (every_get_d (λ s. leb (length (text s)) longest_name) code_names (code - 1) "" tt tt)
 
--- what a list of references has at an index, by what they point to
+-- the text that the reference at an index points to
 pub now_at : (xs : List (Bor (List ℕ))) (k : ℕ) (d : Bor (List ℕ)) → (get_or xs k d).now ≡ get_or (map (λ x. x.now) xs) k d.now
 now_at xs k d = sym (get_or-map (λ (x : Bor (List ℕ)). x.now) xs k d)
 
--- a code's name is that at its index
-pub name_at : (code k : ℕ) (d : List ℕ) → k ≡ code - 1 → k < 17 → get_or (map text code_names) k d ≡ text (code_name code)
+-- a code's name stands at its index
+pub name_at : (code k : ℕ) (d : List ℕ) → k ≡ code - 1 → k < code_count → get_or (map text code_names) k d ≡ text (code_name code)
 unfolding code_name code_names
 name_at code k d e below =
     get_or_default (map text code_names) k d (text "") below
@@ -147,12 +148,12 @@ name_at code k d e below =
     ∙ ap (λ (n : ℕ). text (get_or code_names n "")) e
 
 -- a code past the last has none
-pub no_name : (code k : ℕ) → k ≡ code - 1 → 17 ≤ k → [] ≡ text (code_name code)
+pub no_name : (code k : ℕ) → k ≡ code - 1 → code_count ≤ k → [] ≡ text (code_name code)
 unfolding code_name code_names text
 no_name code k e past = ap text (sym (get_or-eq_default code_names "" {n = code - 1} (omega arith)))
 
 -- where a name and a byte end
-pub code_end : {old new : Printer} (code b : ℕ) → Prints old (text (code_name code) ++ (b ∷ [])) new → new.end ≤ old.end + 17
+pub code_end : {old new : Printer} (code b : ℕ) → Prints old (text (code_name code) ++ (b ∷ [])) new → new.end ≤ old.end + code_room
 code_end code b p = omega (arith, p.ends, length-append (text (code_name code)) (b ∷ []), length_name code)
 
 -- ---- lines
@@ -173,7 +174,7 @@ length_item x y ys = omega (arith, length-append x (space ∷ line (y ∷ ys)))
 -- ---- refusals
 
 -- a refusal, by its three parts
-pub prints_refusal : {old a b new : Printer} (number figure : ℕ) → old.end + 30 ≤ length old.out.now
+pub prints_refusal : {old a b new : Printer} (number figure : ℕ) → old.end + refusal_room ≤ length old.out.now
     → Prints old (text "refused ") a → Prints a (decimal number ++ (space ∷ [])) b → Prints b (decimal figure ++ (newline ∷ [])) new
     → Prints old (refusal_text (record { number = number; figure = figure })) new
 unfolding refusal_text text line
@@ -258,12 +259,12 @@ length_verdict Incomplete = omega arith
 length_verdict Invalid = omega arith
 
 -- where a verdict and a byte end
-pub verdict_end : {old new : Printer} (v : Verdict) (b : ℕ) → Prints old (text (verdict_name v) ++ (b ∷ [])) new → new.end ≤ old.end + 15
+pub verdict_end : {old new : Printer} (v : Verdict) (b : ℕ) → Prints old (text (verdict_name v) ++ (b ∷ [])) new → new.end ≤ old.end + verdict_room
 verdict_end v b p = omega (arith, p.ends, length-append (text (verdict_name v)) (b ∷ []), length_verdict v)
 
 -- the whole result, by its five parts
 pub prints_result : {old a b c d new : Printer} (buffer : List ℕ) (count : ℕ) (v : Verdict) → old.end + longest_answer count ≤ length old.out.now
-    → Prints old (text "row place code value\n") a → Prints a (flat_map diagnostic_text (diagnostics_in buffer count)) b → Prints b (text "verdict findings\n") c
+    → Prints old (text diagnostic_names) a → Prints a (flat_map diagnostic_text (diagnostics_in buffer count)) b → Prints b (text verdict_names) c
     → Prints c (text (verdict_name v) ++ (space ∷ [])) d → Prints d (decimal count ++ (newline ∷ [])) new
     → Prints old (result_text (diagnostics_in buffer count) (record { verdict = v; count = count })) new
 unfolding result_text line flatten text
@@ -280,7 +281,7 @@ prints_result buffer count v h p q r s t =
 -- ---- for the caller
 
 -- no refusal is longer
-pub length_refusal : (r : Refused) → length (refusal_text r) ≤ 30
+pub length_refusal : (r : Refused) → length (refusal_text r) ≤ refusal_room
 unfolding refusal_text text
 length_refusal r =
     let number = decimal r.number in
@@ -294,7 +295,7 @@ length_refusal r =
       length_decimal r.figure,
     )
 
--- no result of so many diagnostics is
+-- no result is longer than its number of diagnostics allows
 pub length_result : (ds : List RowDiagnostic) (c : Checked) → length (result_text ds c) ≤ longest_answer (length ds)
 unfolding result_text flatten text
 length_result ds c =
@@ -303,7 +304,7 @@ length_result ds c =
     let last = line (name ∷ decimal c.count ∷ []) in
     omega (
       arith,
-      length-append found (text "verdict findings\n" ++ (last ++ [])),
+      length-append found (text verdict_names ++ (last ++ [])),
       length-append last [],
       length_diagnostics ds,
       length_item name (decimal c.count) [],

@@ -18,7 +18,7 @@ use Rattle.base.proofs.ByteLaws.{length_u32_bytes, length_u32_record, overwrite_
 use Rattle.validator_spec.specs.Image.{Image}
 use Rattle.roles_spec.specs.Table.{row_bytes, row_fields}
 use Rattle.listing_spec.specs.Text.{text as text_of, lines, same}
-use Rattle.listing_spec.specs.Listing.{Read, stopped, done, and_then, refused_at, read_as, read_line, named, decimals, hex_word, read_rows, read_words, read_listing, max_listing_rows, max_listing_words}
+use Rattle.listing_spec.specs.Listing.{Read, stopped, done, and_then, refused_at, read_as, read_line, named, decimals, hex_word, read_rows, read_words, read_listing, max_listing_rows, max_listing_words, incoming_names, word_names, row_names}
 use Rattle.listing_spec.proofs.PrefixLaws.{and_then_same}
 use Rattle.listing_spec.proofs.RefusalNumberLaws.{decimals_count}
 use Rattle.listing.specs.Terms.{option_of, read_body, read_code, refused_of, unread}
@@ -67,7 +67,7 @@ module _ {A : Type 0} (o : Optional A) (refusal : Unread) where
 
 -- ---- the rows
 
--- rows from a line on, after so many that were read
+-- the reading of rows and words, after n rows
 unfoldable pub body_from : ℕ → List ℕ → List (List ℕ) → ℕ → ℕ → Read Image
 body_from n table ls warnings errors =
     and_then (read_rows (4 + n) (max_listing_rows - n) ls) (λ rs. read_code (5 + (n + length rs)) (drop (1 + length rs) ls) (table ++ u32_record (flatten rs)) warnings errors)
@@ -86,20 +86,20 @@ rows_missing n table ls warnings errors here = rw here refl
 -- the next line, and those after it
 module _ (n : ℕ) (table l : List ℕ) (ls all : List (List ℕ)) (here : all ≡ l ∷ ls) (warnings errors : ℕ) where
   -- the line "word"
-  pub rows_end : true ≡ bytes_eq l (text_of "word\n") → body_from n table all warnings errors ≡ read_code (5 + n) ls table warnings errors
+  pub rows_end : true ≡ bytes_eq l (text_of word_names) → body_from n table all warnings errors ≡ read_code (5 + n) ls table warnings errors
   unfolding body_from read_rows and_then u32_record flatten flat_map
-  rows_end e = rw (here, same_is l (text_of "word\n"), ← e, add-zero n) (ap (λ (t : List ℕ). read_code (5 + n) ls t warnings errors) (append-nil table))
+  rows_end e = rw (here, same_is l (text_of word_names), ← e, add-zero n) (ap (λ (t : List ℕ). read_code (5 + n) ls t warnings errors) (append-nil table))
 
-  module _ (e : false ≡ bytes_eq l (text_of "word\n")) where
+  module _ (e : false ≡ bytes_eq l (text_of word_names)) where
     -- a line out of form
     pub row_malformed : none ≡ decimals row_fields l → body_from n table all warnings errors ≡ unread (MalformedLine (4 + n))
     unfolding body_from read_rows and_then read_as refused_at refused_of unread
-    row_malformed value = rw (here, same_is l (text_of "word\n"), ← e, ← value) refl
+    row_malformed value = rw (here, same_is l (text_of word_names), ← e, ← value) refl
 
     -- one row too many
     pub rows_too_many : (ns : List ℕ) → some ns ≡ decimals row_fields l → n ≡ max_listing_rows → body_from n table all warnings errors ≡ unread (ListingTooLong (4 + n))
     unfolding body_from read_rows and_then read_as refused_at refused_of unread
-    rows_too_many ns value full = rw (here, same_is l (text_of "word\n"), ← e, ← value, full) refl
+    rows_too_many ns value full = rw (here, same_is l (text_of word_names), ← e, ← value, full) refl
 
     -- a row
     row_read : (ns : List ℕ) → some ns ≡ decimals row_fields l → n < max_listing_rows → read_rows (4 + n) (max_listing_rows - n) (l ∷ ls) ≡ and_then (read_rows (4 + (n + 1)) (max_listing_rows - (n + 1)) ls) (λ rs. done (ns ∷ rs))
@@ -108,7 +108,7 @@ module _ (n : ℕ) (table l : List ℕ) (ls all : List (List ℕ)) (here : all �
         let left : max_listing_rows - n ≡ suc (max_listing_rows - (n + 1)) = omega arith in
         let line : suc (4 + n) ≡ 4 + (n + 1) = omega arith in
         let rest : suc (max_listing_rows - (n + 1)) - 1 ≡ max_listing_rows - (n + 1) = omega arith in
-        ap (λ (k : ℕ). read_rows (4 + n) k (l ∷ ls)) left ∙ rw (same_is l (text_of "word\n"), ← e, ← value) (ap₂ (λ (a k : ℕ). and_then (read_rows a k ls) (λ rs. done (ns ∷ rs))) line rest)
+        ap (λ (k : ℕ). read_rows (4 + n) k (l ∷ ls)) left ∙ rw (same_is l (text_of word_names), ← e, ← value) (ap₂ (λ (a k : ℕ). and_then (read_rows a k ls) (λ rs. done (ns ∷ rs))) line rest)
 
     -- and those after it
     row_then : (ns : List ℕ) (rs : List (List ℕ)) → read_code (5 + (n + length (ns ∷ rs))) (drop (1 + length (ns ∷ rs)) (l ∷ ls)) (table ++ u32_record (flatten (ns ∷ rs))) warnings errors ≡ read_code (5 + (n + 1 + length rs)) (drop (1 + length rs) ls) (table ++ u32_record ns ++ u32_record (flatten rs)) warnings errors
@@ -130,7 +130,7 @@ module _ (n : ℕ) (table l : List ℕ) (ls all : List (List ℕ)) (here : all �
         ∙ and_then_same more more _ _ refl (λ rs _. row_then ns rs)
 
 -- a row is stored after those before it
-pub row_stored : (n : ℕ) (buffer new l : List ℕ) (ls all : List (List ℕ)) (warnings errors : ℕ) (ns : List ℕ) → all ≡ l ∷ ls → false ≡ bytes_eq l (text_of "word\n") → some ns ≡ decimals row_fields l → n < max_listing_rows → length buffer ≡ row_bytes * max_listing_rows → new ≡ overwrite buffer (row_bytes * n) (u32_record ns)
+pub row_stored : (n : ℕ) (buffer new l : List ℕ) (ls all : List (List ℕ)) (warnings errors : ℕ) (ns : List ℕ) → all ≡ l ∷ ls → false ≡ bytes_eq l (text_of word_names) → some ns ≡ decimals row_fields l → n < max_listing_rows → length buffer ≡ row_bytes * max_listing_rows → new ≡ overwrite buffer (row_bytes * n) (u32_record ns)
     → body_from n (take (row_bytes * n) buffer) all warnings errors ≡ body_from (n + 1) (take (row_bytes * (n + 1)) new) ls warnings errors
 row_stored n buffer new l ls all warnings errors ns here e value room long stored =
     let five = decimals_count row_fields l ns (sym value) in
@@ -141,7 +141,7 @@ row_stored n buffer new l ls all warnings errors ns here e value room long store
 
 -- ---- the words
 
--- words from a line on, after so many that were read
+-- the reading of words, after n words
 unfoldable pub code_from : ℕ → ℕ → List ℕ → List (List ℕ) → List ℕ → ℕ → ℕ → Read Image
 code_from line n code ls table warnings errors =
     and_then (read_words (line + n) (max_listing_words - n) ls) (λ ws. done (record { table = table; words = code ++ u32_record ws; warnings = warnings; errors = errors }))
@@ -197,13 +197,6 @@ word_stored line n buffer new l ls all table warnings errors w here value room l
     ∙ ap (λ (b : List ℕ). code_from line (n + 1) b ls table warnings errors) (front_next buffer new (u32_bytes w) (4 * n) (4 * (n + 1)) stored next (omega arith))
 
 -- ---- the first three lines
-
--- the names lines
-abbrev incoming_names : String
-incoming_names = "warnings errors\n"
-
-abbrev row_names : String
-row_names = "depth words constants upvalues stack\n"
 
 -- the third line and what follows, of these lines
 unfoldable pub third_on : List ℕ → List (List ℕ) → Read Image

@@ -50,7 +50,7 @@ fn decimal_value(digits: &[u8]) -> Option<u32>
     digits_value(digits, 10)
 }
 
-// How many digits are in front.
+// The number of digits at the front of a text.
 #[tactic(auto, unfolding(listing_spec::specs::Text::is_digit))]
 fn digits_count(text: &[u8]) -> usize
     ensures { result ≡ length (take_while is_digit text.now) }
@@ -77,7 +77,7 @@ fn are_hex_digits(digits: &[u8]) -> bool
     digits.iter().all(|c| is_hex_digit(*c))
 }
 
-// What a digit is worth. By the definition every byte has a worth: `to_digit` gives one to digits alone.
+// The value of a digit. By the definition every byte has a value; `to_digit` gives one to digits alone.
 #[tactic(auto, unfolding(listing_spec::specs::Text::is_digit, listing_spec::specs::Text::digit_value))]
 fn digit_value(c: u8) -> u32
     ensures { result ≡ digit_value c }
@@ -94,7 +94,7 @@ fn is_hex_digit(c: u8) -> bool
     matches!(c, b'0'..=b'9' | b'a'..=b'f')
 }
 
-// What comes after a number where so many are still to come.
+// The byte after a number, by how many numbers are still to come.
 #[tactic(auto, unfolding(listing_spec::specs::Listing::separator))]
 fn separator_after(left: usize) -> u8
     ensures { result ≡ separator left }

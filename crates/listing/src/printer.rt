@@ -1,14 +1,31 @@
 // Text into a byte buffer. Decimals and names are printed by hand: nothing promises that a `write!` is `Ok`, or that `InlineText::of` cuts no text that fits,
 // and here every output must be whole.
 ghost use Rattle.std.specs.Prelude.{◌≡◌, [], ◌∷◌, ◌++◌, length};
-ghost use Rattle.listing.specs.Terms.{HasRoomFor, Prints};
+ghost use Rattle.listing.specs.Terms.{HasRoomFor, Prints, code_room, number_room, signed_room};
 ghost use Rattle.validator_spec.specs.Records.{signed};
 ghost use Rattle.listing_spec.specs.Packcheck.{code_name};
 ghost use Rattle.listing_spec.specs.Text.{decimal, digits, integer, text as text_of};
 
+use validator::codes::CODE_COUNT;
+
+// The most digits of a u32.
+const LONGEST_NUMBER: usize = 10;
+
+// The length of the longest name of a code.
+const LONGEST_NAME: usize = 16;
+
+// Room for a number, a signed number, a code's name, a verdict's name, each with the byte after it.
+pub const NUMBER_ROOM: usize = LONGEST_NUMBER + 1;
+
+pub const SIGNED_ROOM: usize = NUMBER_ROOM + 1;
+
+pub const CODE_ROOM: usize = LONGEST_NAME + 1;
+
+pub const VERDICT_ROOM: usize = b"ValidForParser".len() + 1;
+
 // The names of the codes from 1 on, found by number and not by validator's `Code`: a record of the buffer has the number, and by the definition
-// 0 and a number above 17 have a text too.
-const CODE_NAMES: [&str; 17] = [
+// 0 and a number past the last have a text too.
+const CODE_NAMES: [&str; CODE_COUNT] = [
     "L51-CLOSURE-001",
     "L51-SETLIST-001",
     "L51-STACK-001",
@@ -28,8 +45,8 @@ const CODE_NAMES: [&str; 17] = [
     "L51-CLOSURE-002",
 ];
 
-// A buffer, and where the text in it ends. Each method goes on there, and asks for the room of its own text: each text has another length, and
-// the room that is left is no fact of every printer.
+// A buffer, and where the text in it ends. Each method writes on from there and requires the room for its own text. (No ghost field has the room that
+// is left: it is another at each call.)
 #[derive(Drop)]
 pub struct Printer<'a> {
     pub out: &'a mut [u8],
@@ -49,16 +66,16 @@ impl Printer<'_> {
 
     // A number and a byte after it.
     pub fn number(&mut self, n: usize, after: u8)
-        requires { HasRoomFor self.old 11 }
+        requires { HasRoomFor self.old number_room }
         ensures { Prints self.old (decimal n ++ (after ∷ [])) self.new }
     {
-        self.digits(n, 10);
+        self.digits(n, LONGEST_NUMBER);
         self.byte(after);
     }
 
     // A signed number, given by its bits, as the record has it, and a byte after it.
     pub fn signed(&mut self, bits: u32, after: u8)
-        requires { HasRoomFor self.old 12 }
+        requires { HasRoomFor self.old signed_room }
         ensures { Prints self.old (integer (signed bits) ++ (after ∷ [])) self.new }
     {
         if bits < 0x8000_0000 {
@@ -69,9 +86,9 @@ impl Printer<'_> {
         }
     }
 
-    // The name of a code, and a space: that of a number above 17 is empty.
+    // The name of a code, and a space. A number past the last code has an empty name.
     pub fn code(&mut self, code: usize)
-        requires { HasRoomFor self.old 17 }
+        requires { HasRoomFor self.old code_room }
         ensures { Prints self.old (text_of (code_name code) ++ (32 ∷ [])) self.new }
     {
         self.text(name_of(code).as_bytes());
@@ -102,12 +119,12 @@ impl Printer<'_> {
     }
 }
 
-// The name of a code, whose index is one less: 0 has that of 1, and a number above 17 an empty one.
+// The name of a code, at the index one below its number. 0 has the name of 1, and a number past the last an empty one.
 fn name_of(code: usize) -> &'static str
     ensures { result.now ≡ text_of (code_name code) }
 {
     let index = code.saturating_sub(1);
-    if index < CODE_NAMES.len() {
+    if index < CODE_COUNT {
         CODE_NAMES[index]
     } else {
         ""

@@ -8,20 +8,27 @@ ghost use Rattle.listing_spec.specs.Text.{lines};
 use crate::lines::Lines;
 use crate::numbers::{parse_decimals, parse_word};
 use base::bytes::{write_record, write_u32};
-use roles::table::ROW_BYTES;
+use roles::table::{ROW_BYTES, ROW_FIELDS};
+
+// The names lines: before the incoming numbers, before the rows, before the words.
+const INCOMING_NAMES: &[u8] = b"warnings errors\n";
+
+const ROW_NAMES: &[u8] = b"depth words constants upvalues stack\n";
+
+const WORD_NAMES: &[u8] = b"word\n";
 
 // The most rows and words that are read.
 pub const MAX_LISTING_ROWS: usize = 64;
 
 pub const MAX_LISTING_WORDS: usize = 2048;
 
-// Room for them.
-pub const TABLE_LEN: usize = ROW_BYTES * MAX_LISTING_ROWS;
+// Room for the most rows and words.
+pub const TABLE_ROOM: usize = ROW_BYTES * MAX_LISTING_ROWS;
 
-pub const WORDS_LEN: usize = 4 * MAX_LISTING_WORDS;
+pub const WORD_ROOM: usize = 4 * MAX_LISTING_WORDS;
 
-// Refusals 9 and 10, each with the number of its line. (`number` and `figure` are those of roles' `Refusal`. No trait has both: each has one caller, and the
-// figures are of two types.)
+// Refusals 9 and 10, each with the number of its line. (`number` and `figure` are as in `Refusal` of roles. The two types have no trait: each has one
+// caller, and their figures have different types.)
 #[derive(Clone, Copy, PartialEq, Eq, Debug)]
 pub enum Unread {
     MalformedLine(usize),
@@ -29,7 +36,7 @@ pub enum Unread {
 }
 
 impl Unread {
-    // Its number, 9 or 10.
+    // The refusal's number, 9 or 10.
     #[tactic(auto, unfolding(crate::specs::Terms::refused_of))]
     pub fn number(self) -> u8
         ensures { result ≡ (refused_of self).number }
@@ -40,7 +47,7 @@ impl Unread {
         }
     }
 
-    // Its figure: the line.
+    // The refusal's figure: the line.
     #[tactic(auto, unfolding(crate::specs::Terms::refused_of))]
     pub fn figure(self) -> usize
         ensures { result ≡ (refused_of self).figure }
@@ -71,8 +78,8 @@ struct Head {
 #[tactic(auto, unfolding(crate::specs::Terms::head_then, crate::specs::Terms::listing_of, crate::specs::Terms::rows_then, crate::specs::Terms::words_then))]
 pub fn read_listing<'a>(
     text: &[u8],
-    table: &'a mut [u8; TABLE_LEN],
-    words: &'a mut [u8; WORDS_LEN],
+    table: &'a mut [u8; TABLE_ROOM],
+    words: &'a mut [u8; WORD_ROOM],
 ) -> Result<Listing<'a>, Unread>
     ensures { read_listing text.now ≡ listing_of result }
 {
@@ -88,14 +95,14 @@ pub fn read_listing<'a>(
     })
 }
 
-// The first three lines.
+// Reads the first three lines.
 fn read_head(text: &mut Lines) -> Result<Head, Unread>
     ensures { read_listing text.old.rest.now ≡ head_then (lines text.new.rest.now) result }
 {
-    skip_line(text, 1, b"warnings errors\n")?;
+    skip_line(text, 1, INCOMING_NAMES)?;
     let line = text.next().ok_or(Unread::MalformedLine(2))?;
     let [warnings, errors] = parse_decimals::<2>(line).ok_or(Unread::MalformedLine(2))?;
-    skip_line(text, 3, b"depth words constants upvalues stack\n")?;
+    skip_line(text, 3, ROW_NAMES)?;
     Ok(Head { warnings, errors })
 }
 
@@ -109,17 +116,17 @@ fn skip_line(text: &mut Lines, at: usize, line: &[u8]) -> Result<(), Unread>
     }
 }
 
-// The rows, up to the line "word". Their number is counted by hand: it is needed after the last line too, and `enumerate` numbers the lines alone.
-fn read_rows(text: &mut Lines, table: &mut [u8; TABLE_LEN]) -> Result<usize, Unread>
+// Reads the rows, up to the line "word". (Rows are counted by hand: their number is needed after the last line too, where `enumerate` gives none.)
+fn read_rows(text: &mut Lines, table: &mut [u8; TABLE_ROOM]) -> Result<usize, Unread>
     ensures reading { (warnings errors : ℕ) → read_body (lines text.old.rest.now) warnings errors ≡ rows_then (lines text.new.rest.now) warnings errors table.new result }
     ensures within_limits { IfOk result (λ rows. rows ≤ max_listing_rows) }
 {
     let mut rows = 0;
     while let Some(line) = text.next() {
-        if line == b"word\n".as_slice() {
+        if line == WORD_NAMES {
             return Ok(rows);
         }
-        let fields = parse_decimals::<5>(line).ok_or(Unread::MalformedLine(4 + rows))?;
+        let fields = parse_decimals::<ROW_FIELDS>(line).ok_or(Unread::MalformedLine(4 + rows))?;
         if rows == MAX_LISTING_ROWS {
             return Err(Unread::ListingTooLong(4 + rows));
         }
@@ -129,9 +136,9 @@ fn read_rows(text: &mut Lines, table: &mut [u8; TABLE_LEN]) -> Result<usize, Unr
     Err(Unread::MalformedLine(4 + rows))
 }
 
-// The words, up to the end, from the line of this number on. (Rows end at a line, words with the text: one function would take all that differs.)
-// Counted by hand as rows are: their number is the answer, after the last line.
-fn read_words(text: &mut Lines, first: usize, words: &mut [u8; WORDS_LEN]) -> Result<usize, Unread>
+// Reads the words, from line number `first` to the end. (Rows end at a line, words with the text: one function for both would take all that differs.
+// Words are counted by hand, as rows are: their number is the answer, after the last line.)
+fn read_words(text: &mut Lines, first: usize, words: &mut [u8; WORD_ROOM]) -> Result<usize, Unread>
     requires { first ≤ 5 + max_listing_rows }
     ensures reading { (table : List ℕ) (warnings errors : ℕ) → read_code first (lines text.old.rest.now) table warnings errors ≡ words_then table warnings errors words.new result }
     ensures within_limits { IfOk result (λ count. count ≤ max_listing_words) }

@@ -1,20 +1,28 @@
 // What packcheck writes: a refusal as the only line, or the diagnostics and the verdict.
 ghost use Rattle.std.specs.Prelude.{◌*◌};
 ghost use mathlib.Core.List.{[], ◌∷◌, ◌++◌, flat_map};
-ghost use Rattle.listing.specs.Terms.{HasRoomFor, Prints, longest_answer, longest_diagnostic, records};
+ghost use Rattle.listing.specs.Terms.{HasRoomFor, Prints, longest_answer, longest_diagnostic, records, refusal_room, verdict_room};
 ghost use Rattle.listing_spec.specs.Packcheck.{diagnostic_text, refusal_text, result_text, verdict_name};
 ghost use Rattle.listing_spec.specs.Text.{text as text_of};
 ghost use Rattle.validator.specs.Terms.{verdict_of_case};
 ghost use Rattle.validator_spec.specs.Records.{diagnostic_in, diagnostics_in};
 
-use crate::printer::Printer;
+use crate::printer::{CODE_ROOM, NUMBER_ROOM, Printer, SIGNED_ROOM};
 use base::bytes::read_u32;
 use validator::calls::{DIAGNOSTIC_BYTES, Verdict};
+
+// The names lines: before the diagnostics, and before the verdict.
+pub const DIAGNOSTIC_NAMES: &[u8] = b"row place code value\n";
+
+pub const VERDICT_NAMES: &[u8] = b"verdict findings\n";
+
+// The longest line of a diagnostic.
+pub const LONGEST_DIAGNOSTIC: usize = NUMBER_ROOM + SIGNED_ROOM + CODE_ROOM + SIGNED_ROOM;
 
 impl Printer<'_> {
     // A refusal's number and its figure.
     pub fn refusal(&mut self, number: usize, figure: usize)
-        requires { HasRoomFor self.old 30 }
+        requires { HasRoomFor self.old refusal_room }
         ensures { Prints self.old (refusal_text (record { number = number; figure = figure })) self.new }
     {
         self.text(b"refused ");
@@ -27,9 +35,9 @@ impl Printer<'_> {
         requires { HasRoomFor self.old (longest_answer (records diagnostics.now)) }
         ensures { Prints self.old (result_text (diagnostics_in diagnostics.now (records diagnostics.now)) (record { verdict = verdict_of_case verdict; count = records diagnostics.now })) self.new }
     {
-        self.text(b"row place code value\n");
+        self.text(DIAGNOSTIC_NAMES);
         self.diagnostics(diagnostics);
-        self.text(b"verdict findings\n");
+        self.text(VERDICT_NAMES);
         self.verdict(verdict);
         self.number(diagnostics.len() / DIAGNOSTIC_BYTES, b'\n');
     }
@@ -57,7 +65,7 @@ impl Printer<'_> {
 
     // A verdict's name, and a space.
     fn verdict(&mut self, verdict: Verdict)
-        requires { HasRoomFor self.old 15 }
+        requires { HasRoomFor self.old verdict_room }
         ensures { Prints self.old (text_of (verdict_name (verdict_of_case verdict)) ++ (32 ∷ [])) self.new }
     {
         match verdict {

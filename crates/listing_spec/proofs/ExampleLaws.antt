@@ -16,8 +16,9 @@ use Rattle.validator_spec.specs.Check.{checked, check_refusal, check_answer}
 use Rattle.listing_spec.specs.Text.{text, same, join_first, lines, line, is_digit, is_hex_digit, digit_value, value_of, is_decimal, digits, decimal, integer}
 use Rattle.listing_spec.specs.Listing.{named, separator, cons_number, decimals, hex_word, and_then, refused_at, read_as, read_line, read_rows, read_words, read_listing}
 use Rattle.listing_spec.specs.Packcheck.{code_names, code_name, verdict_name, refusal_text, diagnostic_text, result_text, answer_text, output_text, packcheck}
-use Rattle.listing_spec.specs.Examples.{texts, listing, examples}
+use Rattle.listing_spec.specs.Examples.{texts, row_line, listing, examples}
 
 pub examples_hold : map (λ e. packcheck e.input) examples ≡ map (λ e. e.output) examples
-unfolding examples texts listing only u32_bytes u32_record u32s u32_from B C is is_constant constant_index row_at rows below children proto_of protos_of protos binding_count has_extra claims roles_from roles role_at word_at executable_at owned existing is_truncated companions binding_words is_unknown is_binding is_jump target is_loadbool_skip is_skip skip_target constant_bx upvalue_b flag_a register_a span_ends register_in constant_in child_bx captured_register captured_upvalue truncation_at has_large_stack stack_diagnostics opcode_diagnostics target_diagnostics jump_diagnostics skip_diagnostics not_below operand_diagnostics opcode_value binding_diagnostics known_diagnostics word_diagnostics diagnostics_at tested_step untested_step proto_steps advance walk_row walk_from walk limit_reached has_errors verdict_of image_protos image_walk diagnostics verdict flat_map flatten refuse refuse_if or_else depth_fits bad_depth fields_fit bad_field word_total image_refusal roles_refusal too_short answer checked check_refusal check_answer text same join_first lines line is_digit is_hex_digit digit_value value_of is_decimal digits decimal integer named separator cons_number decimals hex_word and_then refused_at read_as read_line read_rows read_words read_listing code_names code_name verdict_name refusal_text diagnostic_text result_text answer_text output_text packcheck
+-- tests/definitions/run takes the names of the next line but those of Examples:
+unfolding examples texts row_line listing only u32_bytes u32_record u32s u32_from B C is is_constant constant_index row_at rows below children proto_of protos_of protos binding_count has_extra claims roles_from roles role_at word_at executable_at owned existing is_truncated companions binding_words is_unknown is_binding is_jump target is_loadbool_skip is_skip skip_target constant_bx upvalue_b flag_a register_a span_ends register_in constant_in child_bx captured_register captured_upvalue truncation_at has_large_stack stack_diagnostics opcode_diagnostics target_diagnostics jump_diagnostics skip_diagnostics not_below operand_diagnostics opcode_value binding_diagnostics known_diagnostics word_diagnostics diagnostics_at tested_step untested_step proto_steps advance walk_row walk_from walk limit_reached has_errors verdict_of image_protos image_walk diagnostics verdict flat_map flatten refuse refuse_if or_else depth_fits bad_depth fields_fit bad_field word_total image_refusal roles_refusal too_short answer checked check_refusal check_answer text same join_first lines line is_digit is_hex_digit digit_value value_of is_decimal digits decimal integer named separator cons_number decimals hex_word and_then refused_at read_as read_line read_rows read_words read_listing code_names code_name verdict_name refusal_text diagnostic_text result_text answer_text output_text packcheck
 examples_hold = refl

@@ -11,13 +11,13 @@ use lib.Dec.{T, eqb, eqb→eq}
 use lib.ListN.{length, get_or, take, drop, length-drop}
 use Rattle.base.specs.Lists.{elem, every, take_while}
 use Rattle.base.proofs.ListLaws.{take_while_most}
-use Rattle.base.proofs.TestLaws.{t_and}
+use Rattle.base.proofs.BoolLaws.{t_and}
 use Rattle.listing_spec.specs.Text.{text, newline, same, is_digit, is_hex_digit, value_of, is_decimal}
 use Rattle.listing_spec.specs.Listing.{named, separator, cons_number, decimals, hex_word}
 use Rattle.listing_spec.specs.Longest.{longest_numbers, longest_word}
 use Rattle.listing_spec.proofs.TextLaws.{same-≡, get_d_elem, elem_drop, take_while_every, decimal_digits}
 
--- lines in this form have at most so many bytes, and a newline is one of them
+-- a line in this form has at most `most` bytes, and a newline is one of them
 pub record Bounded {A : Type 0} (most : ℕ) (form : List ℕ → Option A) : Type 0 where
   pub short : (l : List ℕ) (a : A) → form l ≡ some a → length l ≤ most
   pub ended : (l : List ℕ) (a : A) → form l ≡ some a → T (elem newline l)
@@ -31,7 +31,7 @@ module _ {A : Type 0} {most : ℕ} {form : List ℕ → Option A} (bounded : Bou
       go none e = e
       go (some a) e = absurd (not-le_of_lt h (bounded.short l a e))
 
-  -- nor is one with no newline
+  -- nor is a line without a newline
   pub cut_none : (l : List ℕ) → elem newline l ≡ false → form l ≡ none
   cut_none l h = go (form l) refl
     where
@@ -39,7 +39,7 @@ module _ {A : Type 0} {most : ℕ} {form : List ℕ → Option A} (bounded : Bou
       go none e = e
       go (some a) e = absurd (subst T h (bounded.ended l a e))
 
--- what a test lets through
+-- a value that a test lets through
 pub cond_some : {A : Type 0} (b : Bool) (o : Option A) (a : A) → cond b o none ≡ some a → T b × (o ≡ some a)
 cond_some true o a e = (tt, e)
 cond_some false o a e = absurd (none-ne-some _ e)
@@ -100,7 +100,7 @@ decimals_ended (suc left) cs ns e =
     let rest = drop (length ds) cs in
     elem_drop newline (length ds) cs (elem_drop newline 1 rest (decimals_ended left (drop 1 rest) parts.others parts.more))
 
--- so many numbers: each has at most ten digits, and one byte after it
+-- a line of numbers: each has at most ten digits, and one byte after it
 pub decimals_bounded : (left : ℕ) → Bounded (longest_numbers (suc left)) (decimals (suc left))
 decimals_bounded left = record { short = decimals_short (suc left); ended = decimals_ended left }
 

@@ -1,5 +1,6 @@
 -- What is read of an input's first bytes, where they are enough, is what is read of the whole input. Assumes nothing.
 use Prim.Native.Nat.{ℕ, zero, suc, ◌+◌, ◌-◌, ◌*◌, ◌≤◌, ◌<◌}
+use Prim.Native.String.{len}
 use native.Mathlib.Omega.{arith}
 use mathlib.Core.Path.{◌≡◌, refl, sym, ◌∙◌, ap, subst}
 use mathlib.Core.Bool.{Bool, true, false, cond}
@@ -10,12 +11,12 @@ use lib.ListN.{length, take, drop, length-append}
 use Rattle.base.specs.Lists.{elem}
 use Rattle.roles_spec.specs.Table.{row_fields}
 use Rattle.listing_spec.specs.Text.{text, newline, same, join_first, lines}
-use Rattle.listing_spec.specs.Listing.{named, decimals, hex_word, Read, stopped, done, and_then, refused_at, read_as, read_line, read_rows, read_words, max_listing_rows, max_listing_words, read_listing}
+use Rattle.listing_spec.specs.Listing.{named, decimals, hex_word, Read, stopped, done, and_then, refused_at, read_as, read_line, read_rows, read_words, max_listing_rows, max_listing_words, read_listing, incoming_names, word_names, row_names}
 use Rattle.listing_spec.specs.Packcheck.{output_text, packcheck}
 use Rattle.listing_spec.specs.Longest.{longest_numbers, longest_word, longest_rows, longest_listing, input_bytes, DecidedBy}
 use Rattle.listing_spec.proofs.TextLaws.{eqb_swap}
 use Rattle.listing_spec.proofs.FormLaws.{Bounded, long_none, cut_none, named_bounded, decimals_bounded, hex_word_bounded}
-use Rattle.listing_spec.proofs.LongestLaws.{read_as_done, drop_from, line_bytes, row_bytes_lem}
+use Rattle.listing_spec.proofs.LongestLaws.{read_as_done, drop_from, line_bytes, bytes_of_rows}
 
 -- ---- the lines of the first bytes of a text
 
@@ -90,9 +91,9 @@ line_cut bounded at (torn {k} {l} e u) h = rw (cut_none bounded k e, long_none b
 line_cut bounded at (next c k) h = refl
 
 -- a line that is neither a row nor the line "word"
-row_none : (at left : ℕ) (l : List ℕ) (ls : List (List ℕ)) → named "word\n" l ≡ none → decimals row_fields l ≡ none → read_rows at left (l ∷ ls) ≡ refused_at 9 at
+row_none : (at left : ℕ) (l : List ℕ) (ls : List (List ℕ)) → named word_names l ≡ none → decimals row_fields l ≡ none → read_rows at left (l ∷ ls) ≡ refused_at 9 at
 unfolding read_rows read_as and_then refused_at named
-row_none at left l ls e f = go (same l (text "word\n")) e
+row_none at left l ls e f = go (same l (text word_names)) e
   where
     go : (b : Bool) → cond b (some l) none ≡ none
         → cond b (done []) (and_then (read_as at left (decimals row_fields l)) (λ r. and_then (read_rows (suc at) (left - 1) ls) (λ rs. done (r ∷ rs)))) ≡ refused_at 9 at
@@ -105,15 +106,15 @@ unfolding read_rows text
 rows_cut (unchanged p) at left h = ap (read_rows at left) p
 rows_cut (nothing p k) at left h = absurd (omega arith)
 rows_cut (torn {k} {l} {ls} e u) at left h =
-    let names = named_bounded "word\n" tt in
-    let numbers = decimals_bounded 4 in
+    let names = named_bounded word_names tt in
+    let numbers = decimals_bounded (row_fields - 1) in
     row_none at left k [] (cut_none names k e) (cut_none numbers k e)
     ∙ sym (row_none at left l ls (long_none names l (omega arith)) (long_none numbers l (omega arith)))
 rows_cut (next {l} c k) at left h =
-    ap (cond (same l (text "word\n")) (done []))
+    ap (cond (same l (text word_names)) (done []))
     (and_then_same _ _ _ _ refl (λ r e.
     let form = read_as_done at left (decimals row_fields l) r e in
-    and_then_same _ _ _ _ (rows_cut c (suc at) (left - 1) (omega (arith, form.1, (decimals_bounded 4).short l r form.0))) (λ _ _. refl)))
+    and_then_same _ _ _ _ (rows_cut c (suc at) (left - 1) (omega (arith, form.1, (decimals_bounded (row_fields - 1)).short l r form.0))) (λ _ _. refl)))
 
 -- the words: enough bytes for one word more than are read
 pub words_cut : {n : ℕ} {ks ls : List (List ℕ)} → Cut n ks ls → (at left : ℕ) → longest_word * suc left ≤ n → read_words at left ks ≡ read_words at left ls
@@ -134,19 +135,19 @@ unfolding read_listing text
 decided n h input =
     let ks = lines (take n input) in
     let ls = lines input in
-    let first = named_bounded "warnings errors\n" tt in
-    let third = named_bounded "depth words constants upvalues stack\n" tt in
+    let first = named_bounded incoming_names tt in
+    let third = named_bounded row_names tt in
     let words = longest_word * suc max_listing_words in
     let rows = longest_rows max_listing_rows + words in
     let c₀ = cut_lines n input in
     and_then_same _ _ _ _ (line_cut first 1 c₀ (omega arith)) (λ a e₁.
-    let c₁ = cut_from 0 1 1 (longest_numbers 2 + 37 + rows) ks ls refl c₀ (omega (arith, line_bytes first 1 ls a e₁)) in
+    let c₁ = cut_from 0 1 1 (longest_numbers 2 + len row_names + rows) ks ls refl c₀ (omega (arith, line_bytes first 1 ls a e₁)) in
     and_then_same _ _ _ _ (line_cut (decimals_bounded 1) 2 c₁ (omega arith)) (λ ns e₂.
-    let c₂ = cut_from 1 1 2 (37 + rows) ks ls refl c₁ (omega (arith, line_bytes (decimals_bounded 1) 2 (drop 1 ls) ns e₂)) in
+    let c₂ = cut_from 1 1 2 (len row_names + rows) ks ls refl c₁ (omega (arith, line_bytes (decimals_bounded 1) 2 (drop 1 ls) ns e₂)) in
     and_then_same _ _ _ _ (line_cut third 3 c₂ (omega arith)) (λ b e₃.
     let c₃ = cut_from 2 1 3 rows ks ls refl c₂ (omega (arith, line_bytes third 3 (drop 2 ls) b e₃)) in
     and_then_same _ _ _ _ (rows_cut c₃ 4 max_listing_rows (omega arith)) (λ rs e₄.
-    let read = row_bytes_lem (drop 3 ls) 4 max_listing_rows rs e₄ in
+    let read = bytes_of_rows (drop 3 ls) 4 max_listing_rows rs e₄ in
     let c₄ = cut_from 3 (suc (length rs)) (4 + length rs) words ks ls (omega arith) c₃ (omega (arith, read.count, read.bytes)) in
     and_then_same _ _ _ _ (words_cut c₄ (5 + length rs) max_listing_words (omega arith)) (λ _ _. refl)))))
 

@@ -19,7 +19,7 @@ digit_back : (d : ℕ) → d < 10 → digit_value (48 + d) ≡ d
 unfolding digit_value is_digit
 digit_back d h = rw (le-leb 48 (48 + d) (omega arith), le-leb (48 + d) 57 (omega arith)) (omega arith)
 
--- so many digits have the value of a number that has no more
+-- the digits of a number below 10 ^ most have its value
 digits_back : (most n : ℕ) → n < 10 ^ most → value_of 10 (digits most n) ≡ n
 unfolding digits value_of
 digits_back zero n h = omega arith

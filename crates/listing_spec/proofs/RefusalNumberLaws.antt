@@ -10,23 +10,23 @@ use lib.ListN.{length, get_or, drop, length-append}
 use Rattle.base.specs.Lists.{elem, take_while}
 use Rattle.base.specs.Bytes.{u32_record}
 use Rattle.base.proofs.ByteLaws.{length_u32_record}
-use Rattle.base.proofs.TestLaws.{by_or}
+use Rattle.base.proofs.BoolLaws.{by_or}
 use Rattle.roles_spec.specs.Table.{Row, row_fields, row_bytes, rows}
 use Rattle.roles_spec.specs.Roles.{role_bytes}
-use Rattle.roles_spec.specs.Refusals.{Refused, refuse, refuse_if, or_else, depth_fits, bad_depth, fields_fit, bad_field, word_total, image_refusal, roles_refusal, too_short}
+use Rattle.roles_spec.specs.Refusals.{Refused, refuse, refuse_if, or_else, depth_fits, bad_depth, fields_fit, bad_field, word_total, image_refusal, roles_refusal, too_short, max_rows, max_word_bytes}
 use Rattle.roles_spec.proofs.RefusalLaws.{image_kept}
 use Rattle.roles_spec.proofs.TableLaws.{length_rows}
 use Rattle.validator_spec.specs.Image.{Image}
 use Rattle.validator_spec.specs.Check.{check_refusal}
 use Rattle.listing_spec.specs.Text.{text, same, lines, is_digit, value_of, is_decimal}
-use Rattle.listing_spec.specs.Listing.{separator, cons_number, decimals, hex_word, done, and_then, refused_at, read_as, read_rows, read_words, max_listing_rows, max_listing_words, read_listing}
+use Rattle.listing_spec.specs.Listing.{separator, cons_number, decimals, hex_word, done, and_then, refused_at, read_as, read_rows, read_words, max_listing_rows, max_listing_words, read_listing, word_names}
 use Rattle.listing_spec.specs.Packcheck.{diagnostic_room, role_room}
 use Rattle.listing_spec.proofs.FormLaws.{cond_some}
-use Rattle.listing_spec.proofs.LongestLaws.{stopped_done, done-≡, and_then_done, read_as_done, row_bytes_lem}
+use Rattle.listing_spec.proofs.LongestLaws.{stopped_done, done-≡, and_then_done, read_as_done, bytes_of_rows}
 
 -- ---- the lengths of what was read
 
--- so many numbers are read as so many
+-- a line of `count` decimals is read as `count` numbers
 pub decimals_count : (count : ℕ) (cs ns : List ℕ) → decimals count cs ≡ some ns → length ns ≡ count
 unfolding decimals cons_number
 decimals_count zero [] ns e = let z : [] ≡ ns = cc in sym (ap length z)
@@ -46,7 +46,7 @@ decimals_count (suc left) cs ns e =
 pub row_numbers : (ls : List (List ℕ)) (at left : ℕ) (rs : List (List ℕ)) → read_rows at left ls ≡ done rs → length (flatten rs) ≡ row_fields * length rs
 unfolding read_rows flatten refused_at
 row_numbers [] at left rs e = stopped_done _ rs e
-row_numbers (l ∷ ls) at left rs e = go (same l (text "word\n")) (λ ss. row_numbers ls (suc at) (left - 1) ss) e
+row_numbers (l ∷ ls) at left rs e = go (same l (text word_names)) (λ ss. row_numbers ls (suc at) (left - 1) ss) e
   where
     go : (b : Bool) → ((ss : List (List ℕ)) → read_rows (suc at) (left - 1) ls ≡ done ss → length (flatten ss) ≡ row_fields * length ss)
         → cond b (done []) (and_then (read_as at left (decimals row_fields l)) (λ r. and_then (read_rows (suc at) (left - 1) ls) (λ ss. done (r ∷ ss)))) ≡ done rs
@@ -75,7 +75,7 @@ pub record ReadLengths (i : Image) : Type 0 where
   pub row_limit : length i.table ≤ row_bytes * max_listing_rows
   pub word_limit : length i.words ≤ 4 * max_listing_words
 
--- so is every one that was read
+-- every image that was read has these bounds
 pub read_lengths : (input : List ℕ) (i : Image) → read_listing input ≡ done i → ReadLengths i
 unfolding read_listing
 read_lengths input i e =
@@ -85,7 +85,7 @@ read_lengths input i e =
     and_then_done _ _ i q₂ (λ _ e₃ q₃.
     and_then_done _ _ i q₃ (λ rs e₄ q₄.
     and_then_done _ _ i q₄ (λ ws e₅ q₅.
-    let count = (row_bytes_lem (drop 3 ls) 4 max_listing_rows rs e₄).count in
+    let count = (bytes_of_rows (drop 3 ls) 4 max_listing_rows rs e₄).count in
     let numbers = row_numbers (drop 3 ls) 4 max_listing_rows rs e₄ in
     let words = word_count (drop (4 + length rs) ls) (5 + length rs) max_listing_words ws e₅ in
     let table : length (u32_record (flatten rs)) ≡ row_bytes * length rs = omega (arith, length_u32_record (flatten rs), numbers) in
@@ -99,13 +99,13 @@ abbrev pub Among : List ℕ → Option Refused → Type 0
 Among numbers o = (r : Refused) → o ≡ some r → T (elem r.number numbers)
 
 module _ (numbers : List ℕ) where
-  -- of two refusals: the second is given where the first is not
+  -- two refusals, where the second is given only if the first is not
   pub among_or_else : (a b : Option Refused) → Among numbers a → (a ≡ none → Among numbers b) → Among numbers (or_else a b)
   unfolding or_else
   among_or_else none b first second r e = second refl r e
   among_or_else (some s) b first second r e = first r e
 
-  -- of a test: it fails, or the number is one of these
+  -- a refusal by a test: the test fails, or the number is one of these
   pub among_refuse_if : (b : Bool) (number figure : ℕ) → (T b → T (elem number numbers)) → Among numbers (refuse_if b number figure)
   unfolding refuse_if refuse
   among_refuse_if true number figure h r e = let z : number ≡ r.number = cc in subst (λ (n : ℕ). T (elem n numbers)) z (h tt)
@@ -137,11 +137,11 @@ module _ (i : Image) (lengths : ReadLengths i) where
   not_2 t = subst (λ (n : ℕ). T (not (eqb n 0))) lengths.whole_rows t
 
   -- there are not too many rows, nor too many words
-  not_3 : T (ltb 16384 (length (rows i.table)) || ltb 4194304 (length i.words)) → T (elem 3 possible)
+  not_3 : T (ltb max_rows (length (rows i.table)) || ltb max_word_bytes (length i.words)) → T (elem 3 possible)
   not_3 t =
-      by_or (ltb 16384 (length (rows i.table))) (ltb 4194304 (length i.words))
-      (λ u. absurd (omega (arith, ltb→lt 16384 (length (rows i.table)) u, length_rows i.table, lengths.row_limit)))
-      (λ u. absurd (omega (arith, ltb→lt 4194304 (length i.words) u, lengths.word_limit))) t
+      by_or (ltb max_rows (length (rows i.table))) (ltb max_word_bytes (length i.words))
+      (λ u. absurd (omega (arith, ltb→lt max_rows (length (rows i.table)) u, length_rows i.table, lengths.row_limit)))
+      (λ u. absurd (omega (arith, ltb→lt max_word_bytes (length i.words) u, lengths.word_limit))) t
 
   -- the role buffer holds every word
   not_7 : image_refusal i.table i.words ≡ none → T (ltb role_room (role_bytes * word_total (rows i.table))) → T (elem 7 possible)

@@ -9,9 +9,8 @@ use lib.Dec.{T, eqb, leb, ltb, eqb→eq, eqb_refl, T_not, ltb→lt, leb→le}
 use lib.ListN.{length, get_or, drop}
 use borrow.Author.Tests.{leb-true, leb-false, eqb-false, eq-eqb, ne_eqb}
 use Rattle.base.specs.Lists.{elem, every, take_while, go_on_if}
-use Rattle.base.proofs.TestLaws.{t_and, by_or, t_true, t_false, or_right}
-use Rattle.listing_spec.specs.Text.{newline, same, join_first, lines, is_digit, digit_value, value_of, is_decimal}
-use Rattle.listing_spec.specs.Longest.{longest_number}
+use Rattle.base.proofs.BoolLaws.{t_and, by_or, t_true, t_false, or_right}
+use Rattle.listing_spec.specs.Text.{newline, same, join_first, lines, is_digit, digit_value, value_of, is_decimal, longest_number}
 
 -- ---- texts that are the same
 

@@ -13,21 +13,31 @@ use Rattle.listing_spec.specs.Text.{text, newline, space, same, lines, is_digit,
 
 -- ---- the forms of a line
 
--- "The names lines of the input are fixed"
+-- "The names lines of the input are fixed": before the incoming numbers, before the rows, before the words
+abbrev pub incoming_names : String
+incoming_names = "warnings errors\n"
+
+abbrev pub row_names : String
+row_names = "depth words constants upvalues stack\n"
+
+abbrev pub word_names : String
+word_names = "word\n"
+
+-- a line, where it is this names line
 unfoldable pub named : String → List ℕ → Option (List ℕ)
 named s l = cond (same l (text s)) (some l) none
 
--- what comes after a number where so many are still to come
+-- the byte after a number, by how many numbers are still to come
 unfoldable pub separator : ℕ → ℕ
 separator zero = newline
 separator (suc left) = space
 
--- a number before those that were read after it
+-- a number and those read after it, where these were read
 unfoldable pub cons_number : ℕ → Option (List ℕ) → Option (List ℕ)
 cons_number n none = none
 cons_number n (some ns) = some (n ∷ ns)
 
--- so many decimals "with single spaces"
+-- `decimals n` reads a line of n decimals "with single spaces"
 unfoldable pub decimals : ℕ → List ℕ → Option (List ℕ)
 decimals zero [] = some []
 decimals zero (c ∷ cs) = none
@@ -54,11 +64,11 @@ unfoldable pub and_then : {A B : Type 0} → Read A → (A → Read B) → Read 
 and_then (stopped r) f = stopped r
 and_then (done a) f = f a
 
--- 9, unreadable: "a line not in form"; 10, too long: one more than are read, "well formed"
+-- refusal 9, unreadable: "a line not in form"; or 10, too long: one row or word too many, "well formed"
 unfoldable pub refused_at : {A : Type 0} → ℕ → ℕ → Read A
 refused_at number at = stopped (record { number = number; figure = at })
 
--- line number `at`, where so many more of its kind are read
+-- line number `at`, where at most `left` lines of its kind are still read
 unfoldable pub read_as : {A : Type 0} → ℕ → ℕ → Option A → Read A
 read_as at left none = refused_at 9 at
 read_as at zero (some a) = refused_at 10 at
@@ -69,14 +79,14 @@ unfoldable pub read_line : {A : Type 0} → ℕ → (List ℕ → Option A) → 
 read_line at form [] = refused_at 9 at
 read_line at form (l ∷ ls) = read_as at 1 (form l)
 
--- the rows, up to the line "word": at most so many
+-- the rows, at most `left`, up to the line "word"
 unfoldable pub read_rows : ℕ → ℕ → List (List ℕ) → Read (List (List ℕ))
 read_rows at left [] = refused_at 9 at
 read_rows at left (l ∷ ls) =
     let more = read_rows (suc at) (left - 1) ls in
-    cond (same l (text "word\n")) (done []) (and_then (read_as at left (decimals row_fields l)) (λ r. and_then more (λ rs. done (r ∷ rs))))
+    cond (same l (text word_names)) (done []) (and_then (read_as at left (decimals row_fields l)) (λ r. and_then more (λ rs. done (r ∷ rs))))
 
--- The words, at most so many, to the end of the input. (Decided here: word lines fewer or more than the rows state are refusal 6, and none of them is missing)
+-- The words, at most `left`, to the end of the input. (Decided here: fewer or more word lines than the rows state are refusal 6; no line is missing)
 unfoldable pub read_words : ℕ → ℕ → List (List ℕ) → Read (List ℕ)
 read_words at left [] = done []
 read_words at left (l ∷ ls) =
@@ -87,7 +97,7 @@ read_words at left (l ∷ ls) =
 abbrev pub max_listing_rows : ℕ
 max_listing_rows = 64
 
--- and so many words
+-- the most words that are read
 abbrev pub max_listing_words : ℕ
 max_listing_words = 2048
 
@@ -95,9 +105,9 @@ max_listing_words = 2048
 unfoldable pub read_listing : List ℕ → Read Image
 read_listing input =
     let ls = lines input in
-    and_then (read_line 1 (named "warnings errors\n") ls) (λ _.
+    and_then (read_line 1 (named incoming_names) ls) (λ _.
     and_then (read_line 2 (decimals 2) (drop 1 ls)) (λ ns.
-    and_then (read_line 3 (named "depth words constants upvalues stack\n") (drop 2 ls)) (λ _.
+    and_then (read_line 3 (named row_names) (drop 2 ls)) (λ _.
     and_then (read_rows 4 max_listing_rows (drop 3 ls)) (λ rs.
     and_then (read_words (5 + length rs) max_listing_words (drop (4 + length rs) ls)) (λ ws.
     done (record { table = u32_record (flatten rs); words = u32_record ws; warnings = get_or ns 0 0; errors = get_or ns 1 0 }))))))

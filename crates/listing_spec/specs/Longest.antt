@@ -1,16 +1,14 @@
 -- The longest input that is read without refusal 9 or 10, and the program's buffer. Assumes nothing: these are definitions.
 use Rattle.std.specs.Prelude.{ℕ, ◌+◌, ◌*◌, ◌≡◌, List, take}
+use Prim.Native.String.{len}
 use Rattle.roles_spec.specs.Table.{row_fields}
-use Rattle.listing_spec.specs.Listing.{max_listing_rows, max_listing_words}
+use Rattle.listing_spec.specs.Text.{longest_number}
+use Rattle.listing_spec.specs.Listing.{incoming_names, row_names, word_names, max_listing_rows, max_listing_words}
 use Rattle.listing_spec.specs.Packcheck.{packcheck}
 
--- ---- the bytes of a line in form: at most so many
+-- ---- the most bytes of lines in form
 
--- the digits of a u32
-abbrev pub longest_number : ℕ
-longest_number = 10
-
--- so many numbers, each with the byte after it
+-- `count` numbers, each with the byte after it
 abbrev pub longest_numbers : ℕ → ℕ
 longest_numbers count = (longest_number + 1) * count
 
@@ -20,11 +18,11 @@ longest_word = 9
 
 -- the lines before the rows: names, what came in, names
 abbrev pub longest_head : ℕ
-longest_head = 16 + longest_numbers 2 + 37
+longest_head = len incoming_names + longest_numbers 2 + len row_names
 
--- so many rows and the line "word"
+-- the rows and the line "word"
 abbrev pub longest_rows : ℕ → ℕ
-longest_rows rows = longest_numbers row_fields * rows + 5
+longest_rows rows = longest_numbers row_fields * rows + len word_names
 
 -- ---- the bytes of an input
 
@@ -32,10 +30,10 @@ longest_rows rows = longest_numbers row_fields * rows + 5
 abbrev pub longest_listing : ℕ
 longest_listing = longest_head + longest_rows max_listing_rows + longest_word * max_listing_words
 
--- the program's buffer, the large one of io: it reads no more bytes of its input
+-- the program's buffer: it reads no more bytes of its input
 abbrev pub input_bytes : ℕ
 input_bytes = 65536
 
--- so many bytes of an input decide the whole output
+-- the first n bytes of an input decide the whole output
 abbrev pub DecidedBy : ℕ → Type 0
 DecidedBy n = (input : List ℕ) → packcheck (take n input) ≡ packcheck input

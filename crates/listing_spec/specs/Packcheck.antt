@@ -19,6 +19,10 @@ code_names =
     ∷ "L51-BOOL-001" ∷ "L51-REG-001" ∷ "L51-REG-SPAN-001" ∷ "L51-REG-002" ∷ "L51-REG-003" ∷ "L51-CONST-004" ∷ "L51-CONST-005" ∷ "L51-PROTO-002"
     ∷ "L51-CLOSURE-002" ∷ []
 
+-- the length of the longest name of a code
+abbrev pub longest_name : ℕ
+longest_name = 16
+
 -- "the code's name"
 unfoldable pub code_name : ℕ → String
 code_name code = get_or code_names (code - 1) ""
@@ -38,13 +42,20 @@ unfoldable pub diagnostic_text : RowDiagnostic → List ℕ
 diagnostic_text d =
     line (decimal d.row ∷ integer d.diagnostic.pc ∷ text (code_name d.diagnostic.code) ∷ integer d.diagnostic.value ∷ [])
 
+-- the names lines of the output: before the diagnostics, and before the verdict
+abbrev pub diagnostic_names : String
+diagnostic_names = "row place code value\n"
+
+abbrev pub verdict_names : String
+verdict_names = "verdict findings\n"
+
 -- "a names line, one line a finding with the code's name, a second names line, and the verdict's name with the number of findings"
 unfoldable pub result_text : List RowDiagnostic → Checked → List ℕ
 result_text ds c =
     flatten (
-    text "row place code value\n"
+    text diagnostic_names
     ∷ flat_map diagnostic_text ds
-    ∷ text "verdict findings\n"
+    ∷ text verdict_names
     ∷ line (text (verdict_name c.verdict) ∷ decimal c.count ∷ [])
     ∷ []
     )
@@ -55,18 +66,18 @@ answer_text ds (refused r) = refusal_text r
 answer_text ds (accepted c) = result_text ds c
 
 -- "The program lends 2,048 finding records"
-abbrev pub max_diagnostics : ℕ
-max_diagnostics = 2048
+abbrev pub max_listing_diagnostics : ℕ
+max_listing_diagnostics = 2048
 
--- their bytes
+-- the bytes of these records
 abbrev pub diagnostic_room : ℕ
-diagnostic_room = diagnostic_bytes * max_diagnostics
+diagnostic_room = diagnostic_bytes * max_listing_diagnostics
 
--- and those of roles for all the words that it reads
+-- the bytes of the role records of all words that it reads
 abbrev pub role_room : ℕ
 role_room = role_bytes * max_listing_words
 
--- what was read, as the output
+-- the output for what was read
 unfoldable pub output_text : Read Image → List ℕ
 output_text (stopped r) = refusal_text r
 output_text (done i) = answer_text (diagnostics i) (check_answer i role_room diagnostic_room)

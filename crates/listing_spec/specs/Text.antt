@@ -26,7 +26,7 @@ same (x ∷ xs) (y ∷ ys) = eqb x y && same xs ys
 
 -- ---- lines
 
--- the first line with one more byte in front
+-- lines with one more byte in front of the first
 unfoldable pub join_first : ℕ → List (List ℕ) → List (List ℕ)
 join_first c [] = (c ∷ []) ∷ []
 join_first c (l ∷ ls) = (c ∷ l) ∷ ls
@@ -52,11 +52,11 @@ is_digit c = leb 48 c && leb c 57
 unfoldable pub is_hex_digit : ℕ → Bool
 is_hex_digit c = is_digit c || leb 97 c && leb c 102
 
--- of a decimal or hexadecimal digit
+-- the value of a decimal or hexadecimal digit
 unfoldable pub digit_value : ℕ → ℕ
 digit_value c = cond (is_digit c) (c - 48) (c - 87)
 
--- of digits at a base
+-- the value of digits at a base
 unfoldable pub value_of : ℕ → List ℕ → ℕ
 value_of base ds = foldl (λ n d. n * base + digit_value d) 0 ds
 
@@ -71,11 +71,15 @@ unfoldable pub digits : ℕ → ℕ → List ℕ
 digits zero n = []
 digits (suc most) n = let front = digits most (n / 10) in cond (ltb n 10) [] front ++ ((48 + n % 10) ∷ [])
 
--- a number below 10 ^ 10, as each u32 is
-unfoldable pub decimal : ℕ → List ℕ
-decimal n = digits 10 n
+-- the most digits of a u32
+abbrev pub longest_number : ℕ
+longest_number = 10
 
--- with a sign where it is negative
+-- a number of at most `longest_number` digits
+unfoldable pub decimal : ℕ → List ℕ
+decimal n = digits longest_number n
+
+-- an integer, with a sign where it is negative
 unfoldable pub integer : ℤ → List ℕ
 integer (pos n) = decimal n
 integer (negsuc n) = text "-" ++ decimal (suc n)

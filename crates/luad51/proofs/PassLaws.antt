@@ -5,7 +5,7 @@ use native.Mathlib.Omega.{arith}
 use borrow.Author.Tests.{eqb-true}
 use mathlib.Core.Path.{sym, ◌∙◌, ap, subst}
 use Rattle.base.specs.Lists.{All}
-use Rattle.base.proofs.TestLaws.{true≢false}
+use Rattle.base.proofs.BoolLaws.{true≢false}
 use Rattle.roles_spec.specs.Refusals.{Refused}
 use Rattle.roles_spec.specs.Calls.{Answer, refused, accepted}
 use Rattle.validator_spec.specs.Walk.{Verdict, ValidForParser, Incomplete, Invalid}
@@ -16,7 +16,7 @@ use Rattle.luad51.specs.Results.{check_result, checked_bit, verdict_number, verd
 use Rattle.luad51.specs.Examples.{examples}
 use Rattle.luad51.proofs.ResultLaws.{answer_kept}
 
--- the accessors read from each number of the table what stands there
+-- the accessors read from each result of the table what stands beside it
 pub examples_hold : map (λ e. reading e.result) examples ≡ map (λ e. e.expected) examples
 unfolding examples reading refusal_in figure_in verdict_in is_checked is_pass
 examples_hold = refl
@@ -26,7 +26,7 @@ pub no_pass_0 : is_pass 0 ≡ false
 unfolding is_pass
 no_pass_0 = refl
 
--- a pass is exactly what has the bit of an accepted check, refusal 0, verdict 0 and none of bits 48 to 63
+-- a result is a pass exactly where it has the bit of an accepted check, refusal 0, verdict 0 and none of bits 48 to 63
 pub pass_is : (result : ℕ) → (is_pass result ≡ true) ↔ ((is_checked result ≡ true) × (refusal_in result ≡ 0) × (verdict_in result ≡ 0) × (result / 2 ^ 48 ≡ 0))
 unfolding is_pass is_checked refusal_in verdict_in
 pass_is result = (
@@ -48,13 +48,13 @@ no_pass result refusal figure verdict r = go (is_pass result) refl
     go true e = true≢false (sym ((pass_is result).0 e).0 ∙ r.checked_read)
     go false e = e
 
--- so no result of the roles call or the bindings call is one
+-- so no result of the roles call or the bindings call is a pass
 pub no_pass_of_other_calls : (result : ℕ) (a : Answer ℕ) → Reads result a → is_pass result ≡ false
 unfolding Reads
 no_pass_of_other_calls result (refused r) h = no_pass result _ _ _ h
 no_pass_of_other_calls result (accepted n) h = no_pass result _ _ _ h
 
--- nor is one of a refused check
+-- nor is the result of a refused check
 pub no_pass_of_refused : (result : ℕ) (r : Refused) → ReadsCheck result (refused r) → is_pass result ≡ false
 unfolding ReadsCheck
 no_pass_of_refused result r h = no_pass result _ _ _ h
@@ -71,7 +71,7 @@ passed_by_number ValidForParser = refl
 passed_by_number Incomplete = refl
 passed_by_number Invalid = refl
 
--- an accepted check's is told by the verdict's number. (Its figure has 32 bits, as the accessors read it back.)
+-- whether the result of an accepted check is a pass, by the verdict's number. (Its figure has 32 bits, as the accessors read it back.)
 passed_as : (result : ℕ) (c : Checked) → result ≡ check_result (accepted c) → ReadsCheck result (accepted c) → is_pass result ≡ nat_eq (verdict_number c.verdict) 0
 unfolding check_result ReadsCheck is_pass figure_in
 passed_as result c e h =
@@ -79,7 +79,7 @@ passed_as result c e h =
     let upper : result / 2 ^ 32 ≡ 2 ^ 8 * verdict_number c.verdict + 2 ^ 15 = omega arith in
     rw upper (passed_by_number c.verdict)
 
--- an accepted check's is one exactly with ValidForParser
+-- the result of an accepted check is a pass exactly with ValidForParser
 pub pass_iff_valid : (result : ℕ) (c : Checked) → result ≡ check_result (accepted c) → ReadsCheck result (accepted c) → (is_pass result ≡ true) ↔ (c.verdict ≡ ValidForParser)
 pass_iff_valid result c e h = rw (passed_as result c e h) (valid_by_number c.verdict)
 
@@ -92,39 +92,39 @@ pass_guaranteed result i g p =
 
 -- ---- no answer is lost
 
--- the four that are read, and whether it is a pass
+-- the four values that are read, and whether the result is a pass
 read_whole : (result refusal figure verdict : ℕ) (checked passed : Bool) → ReadAs result refusal figure verdict checked → is_pass result ≡ passed
     → reading result ≡ record { refusal = refusal; figure = figure; verdict = verdict; checked = checked; passed = passed }
 unfolding reading
 read_whole result refusal figure verdict checked passed r p = rw (r.refusal_read, r.figure_read, r.verdict_read, r.checked_read, p) refl
 
--- and it is none without the bit of an accepted check
+-- without the bit of an accepted check it is no pass
 read_unchecked : (result refusal figure verdict : ℕ) → ReadAs result refusal figure verdict false
     → reading result ≡ record { refusal = refusal; figure = figure; verdict = verdict; checked = false; passed = false }
 read_unchecked result refusal figure verdict r = read_whole result _ _ _ _ _ r (no_pass result _ _ _ r)
 
--- of an accepted roles call or bindings call the accessors read the number of records
+-- the accessors read the number of records of an accepted roles call or bindings call
 pub records_read : (result n : ℕ) → Reads result (accepted n) → reading result ≡ record { refusal = 0; figure = n; verdict = 0; checked = false; passed = false }
 unfolding Reads
 records_read result n h = read_unchecked result _ _ _ h
 
--- of a refused one they read why
+-- they read why such a call was refused
 pub refusal_read : (result : ℕ) (r : Refused) → Reads result (refused r) → reading result ≡ record { refusal = r.number; figure = r.figure; verdict = 0; checked = false; passed = false }
 unfolding Reads
 refusal_read result r h = read_unchecked result _ _ _ h
 
--- and of a refused check
+-- and why a check was refused
 pub check_refusal_read : (result : ℕ) (r : Refused) → ReadsCheck result (refused r) → reading result ≡ record { refusal = r.number; figure = r.figure; verdict = 0; checked = false; passed = false }
 unfolding ReadsCheck
 check_refusal_read result r h = read_unchecked result _ _ _ h
 
--- of an accepted check they read the number of diagnostics and the verdict's
+-- they read the number of diagnostics and the verdict of an accepted check
 pub check_read : (result : ℕ) (c : Checked) → result ≡ check_result (accepted c) → ReadsCheck result (accepted c)
     → reading result ≡ record { refusal = 0; figure = c.count; verdict = verdict_number c.verdict; checked = true; passed = nat_eq (verdict_number c.verdict) 0 }
 unfolding ReadsCheck
 check_read result c e h = read_whole result _ _ _ _ _ h (passed_as result c e h)
 
--- of an accepted check all is guaranteed that its answer guarantees
+-- the result of an accepted check guarantees all that its answer guarantees
 pub guarantee_kept : (result : ℕ) (i : Image) (c : Checked) → ReadsCheck result (accepted c) → Guaranteed result i → Guarantee i c
 unfolding ReadsCheck Guaranteed
 guarantee_kept result i c r g = subst (Guarantee i) (answer_kept result c r) (g r.refusal_read)

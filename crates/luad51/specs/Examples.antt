@@ -1,4 +1,4 @@
--- Worked examples of results: the table of host/header.c, which the header's own accessors compute there. proofs/PassLaws proves it of their transcriptions.
+-- Worked examples of results: the table of tests/c/header.c, which the header's own accessors compute there. proofs/PassLaws proves it of their transcriptions.
 -- Assumes nothing: these are definitions.
 use Rattle.std.specs.Prelude.{ℕ, Bool, true, false, List, [], ◌∷◌}
 use Rattle.luad51.specs.Results.{Reading}
@@ -8,7 +8,7 @@ pub record Example : Type 0 where
   pub result : ℕ
   pub expected : Reading
 
--- with the refusal, the figure, the verdict, whether a check was accepted, and whether it is a pass
+-- an example: a result, and its refusal, its figure, its verdict, whether a check was accepted, and whether it is a pass
 abbrev example : ℕ → ℕ → ℕ → ℕ → Bool → Bool → Example
 example result refusal figure verdict checked passed =
     record { result = result; expected = record { refusal = refusal; figure = figure; verdict = verdict; checked = checked; passed = passed } }
@@ -23,7 +23,7 @@ examples =
     ∷ example 0x810000000001 0 1 1 true false
     ∷ example 0x820000000000 0 0 2 true false
     ∷ example 0x82000000280f 0 10255 2 true false
-    -- that nobody set, and of another accepted call
+    -- a result that nobody set, and those of another accepted call
     ∷ example 0x0 0 0 0 false false
     ∷ example 0x1 0 1 0 false false
     ∷ example 0x3fc000 0 4177920 0 false false

@@ -1,19 +1,19 @@
-// The C interface, as include/luad51.h declares it. A call's answer goes out as one number. Slices and buffers are parameters, each by itself, as C lends
-// them.
+// The C interface, as include/luad51.h declares it. A call's answer goes out as one number. Each slice and each buffer is a parameter of its own, as
+// C lends them.
 #![tactic(auto)]
 
 ghost use Rattle.std.specs.Prelude.{◌≡◌, ◌+◌, ◌<◌, ◌^◌, false, true, length};
 ghost use Rattle.luad51.specs.Results.{Guaranteed, ReadAs, Reads, ReadsCheck, check_result, checked_bit, count_result, packed, refused_result, verdict_number};
 ghost use Rattle.roles_spec.specs.Calls.{bindings_after, bindings_answer, roles_after, roles_answer};
 ghost use Rattle.roles.specs.Terms.{answer_of, refused_of};
-ghost use Rattle.validator.specs.Terms.{answer_of as validationOf, image_of, verdict_of_case};
+ghost use Rattle.validator.specs.Terms.{answer_of as validation_of, image_of, verdict_of_case};
 ghost use Rattle.validator_spec.specs.Check.{check_answer, diagnostics_after};
 
 use roles::calls::{write_bindings, write_roles};
 use roles::refusals::Refusal;
 use validator::calls::{Validation, Verdict, validate_chunk_lua51};
 
-// The bit of a result that an accepted check sets, and nothing else.
+// The bit of a result that only an accepted check sets.
 const CHECKED: u64 = 0x8000_0000_0000;
 
 // The roles call.
@@ -61,11 +61,11 @@ pub extern "C" fn luad51_check(
     check_result(validate_chunk_lua51(table, words, warnings, errors, roles, diagnostics))
 }
 
-// The number of a refusal, or of diagnostics with the verdict's.
+// The result of a check: its refusal, or the number of diagnostics and the verdict.
 #[tactic(auto, unfolding(crate::specs::Results::check_result, crate::specs::Results::ReadsCheck, validator::specs::Terms::answer_of, validator::specs::Terms::checked_of))]
 fn check_result(answer: Result<Validation, Refusal>) -> u64
-    ensures value { result ≡ check_result (validationOf answer) }
-    ensures reads_check { ReadsCheck result (validationOf answer) }
+    ensures value { result ≡ check_result (validation_of answer) }
+    ensures reads_check { ReadsCheck result (validation_of answer) }
 {
     match answer {
         Ok(validation) => pack_checked(validation.count, verdict_number(validation.verdict)),
@@ -86,7 +86,7 @@ fn verdict_number(verdict: Verdict) -> u8
     }
 }
 
-// The number of a refusal or of records. (Beside `check_result`: that has a verdict too, which a common answer would carry for both.)
+// The result of another call: its refusal, or the number of records. (Not one function with `check_result`: the common answer would have a verdict.)
 #[tactic(auto, unfolding(crate::specs::Results::count_result, crate::specs::Results::Reads, roles::specs::Terms::answer_of))]
 fn count_result(answer: Result<u32, Refusal>) -> u64
     ensures value { result ≡ count_result (answer_of answer) }
@@ -98,7 +98,7 @@ fn count_result(answer: Result<u32, Refusal>) -> u64
     }
 }
 
-// The number of a refusal, without a verdict.
+// The result of a refused call. It has no verdict.
 #[tactic(auto, unfolding(crate::specs::Results::refused_result))]
 fn refused_result(refusal: Refusal) -> u64
     ensures value { result ≡ refused_result (refused_of refusal) }
@@ -107,7 +107,7 @@ fn refused_result(refusal: Refusal) -> u64
     pack(refusal.figure(), refusal.number())
 }
 
-// Both in one number, of which the header's accessors take each.
+// A figure and a refusal in one number, from which the header's accessors read each.
 fn pack(figure: u32, refusal: u8) -> u64
     ensures value { result ≡ packed figure refusal 0 }
     ensures read_as { ReadAs result refusal figure 0 false }
@@ -115,7 +115,7 @@ fn pack(figure: u32, refusal: u8) -> u64
     (figure as u64) + 0x1_0000_0000 * (refusal as u64)
 }
 
-// The number of an accepted check: figure and verdict, and the bit that nothing else sets.
+// The result of an accepted check: figure and verdict, and the bit that nothing else sets.
 fn pack_checked(figure: u32, verdict: u8) -> u64
     requires { verdict < 2 ^ 7 }
     ensures value { result ≡ packed figure 0 verdict + checked_bit }

@@ -9,13 +9,13 @@ use lib.Dec.{ltb}
 use lib.ListN.{length, get_or}
 use Rattle.std.proofs.Common.{ltb-false}
 use Rattle.base.specs.Lists.{tabulate}
-use Rattle.opcodes.specs.Words.{number_of, opcodes, opcode_at, opcode_of}
+use Rattle.opcodes.specs.Words.{number_of, opcodes, opcode_at, opcode_of, opcode_count, VARARG}
 use Rattle.opcodes.specs.declared.Opcode51.{Opcode51}
 use Rattle.opcodes.specs.declared.OpcodeField.TheVariants.{Known, Unknown}
 use Rattle.base.proofs.ListLaws.{get_d_tabulate}
 
--- the numbers of the list are 0 to 37
-in_order : map number_of opcodes ≡ tabulate 38 (λ n. n)
+-- the numbers of the list count up from 0
+in_order : map number_of opcodes ≡ tabulate opcode_count (λ n. n)
 unfolding number_of opcodes
 in_order = refl
 
@@ -38,30 +38,30 @@ below_list [] k n o q = let z : ◌≡◌ {A = ℕ} 0 1 = cc in absurd (omega ar
 below_list (p ∷ os) zero n o q = omega arith
 below_list (p ∷ os) (suc k) n o q = suc-le-suc (below_list os k n o q)
 
--- a known opcode has the number that it was found by, and that is below 38
-pub known_below : (n : ℕ) (o : Opcode51) → opcode_of n ≡ Known o → n < 38
+-- a known opcode has the number that it was found by, which is below the number of opcodes
+pub known_below : (n : ℕ) (o : Opcode51) → opcode_of n ≡ Known o → n < opcode_count
 unfolding opcode_of opcodes
 known_below n o q = below_list opcodes n n o q
 
 pub known_number : (n : ℕ) (o : Opcode51) → opcode_of n ≡ Known o → n ≡ number_of o
 unfolding opcode_of
 known_number n o q =
-    sym (get_d_tabulate (λ n. n) 38 n 0 (known_below n o q))
+    sym (get_d_tabulate (λ n. n) opcode_count n 0 (known_below n o q))
     ∙ ap (λ (ns : List ℕ). get_or ns n 0) (sym in_order)
     ∙ number_at opcodes n n o q
 
--- an unknown one is past the list
+-- the number of an unknown opcode is past the list
 listed_known : (os : List Opcode51) (k n m : ℕ) → k < length os → opcode_at os k n ≡ Unknown m → ⊥
 unfolding opcode_at
 listed_known [] k n m h q = not-suc-le-zero h
 listed_known (o ∷ os) zero n m h q = let z : ◌≡◌ {A = ℕ} 0 1 = cc in absurd (omega arith)
 listed_known (o ∷ os) (suc k) n m h q = listed_known os k n m (le_of_suc-le-suc h) q
 
--- so it is above the last number
-pub unknown_above : (n m : ℕ) → opcode_of n ≡ Unknown m → ltb 37 n ≡ true
+-- so that number is above the last known one
+pub unknown_above : (n m : ℕ) → opcode_of n ≡ Unknown m → ltb VARARG n ≡ true
 unfolding opcode_of opcodes
-unknown_above n m q = go (ltb 37 n) refl
+unknown_above n m q = go (ltb VARARG n) refl
   where
-    go : (b : Bool) → ltb 37 n ≡ b → ltb 37 n ≡ true
+    go : (b : Bool) → ltb VARARG n ≡ b → ltb VARARG n ≡ true
     go true e = e
-    go false e = absurd (listed_known opcodes n n m (omega (arith, ltb-false 37 n e)) q)
+    go false e = absurd (listed_known opcodes n n m (omega (arith, ltb-false VARARG n e)) q)

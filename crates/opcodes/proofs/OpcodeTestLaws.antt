@@ -1,10 +1,10 @@
--- The opcode of a word against lists of opcodes: one of these is none of those, or one of those. Assumes nothing.
+-- A word whose opcode is in one list: whether it is in another list. Assumes nothing.
 use Prim.Native.Nat.{ℕ}
 use mathlib.Core.Path.{◌≡◌}
 use mathlib.Core.Bool.{false}
 use mathlib.Core.List.{List}
 use lib.Dec.{T}
-use Rattle.base.proofs.TestLaws.{disjoint, elem_disjoint, subset, elem_subset}
+use Rattle.base.proofs.BoolLaws.{disjoint, elem_disjoint, subset, elem_subset}
 use Rattle.opcodes.specs.Words.{opcode, is}
 
 pub is_not : (w : ℕ) (these those : List ℕ) → T (disjoint these those) → T (is w these) → is w those ≡ false

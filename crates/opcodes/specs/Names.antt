@@ -46,7 +46,7 @@ opcode_name Close = codes "CLOSE"
 opcode_name Closure = codes "CLOSURE"
 opcode_name VarArg = codes "VARARG"
 
--- and of the operand fields that it has
+-- the name of each set of operand fields
 unfoldable pub mode_name : OpMode51 → List ℕ
 mode_name IABC = codes "iABC"
 mode_name IABx = codes "iABx"

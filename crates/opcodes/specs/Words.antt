@@ -1,5 +1,5 @@
 -- Words (document 01, "Words"; lopcodes.h of Lua 5.1): how a word splits, the opcodes, and what A, B and C are under each. Assumes nothing: these are definitions.
-use Rattle.std.specs.Prelude.{ℕ, zero, suc, ◌-◌, ◌/◌, ◌%◌, ◌^◌, Bool, not, cond, List, [], ◌∷◌, ◌++◌, leb, ℤ, pos, ◌-ℤ◌}
+use Rattle.std.specs.Prelude.{ℕ, zero, suc, ◌+◌, ◌-◌, ◌/◌, ◌%◌, ◌^◌, Bool, not, cond, List, [], ◌∷◌, ◌++◌, leb, ℤ, pos, ◌-ℤ◌}
 use Rattle.base.specs.Lists.{elem}
 use Rattle.opcodes.specs.declared.Opcode51.{Opcode51}
 use Rattle.opcodes.specs.declared.Opcode51.TheVariants.{Move, LoadK, LoadBool, LoadNil, GetUpval, GetGlobal, GetTable, SetGlobal, SetUpval, SetTable, NewTable, SelfOp, Add, Sub, Mul, Div, Mod, Pow, Unm, Not, Len, Concat, Jmp, Eq, Lt, Le, Test, TestSet, Call, TailCall, Return, ForLoop, ForPrep, TForLoop, SetList, Close, Closure, VarArg}
@@ -29,9 +29,13 @@ field_a = field 6 8
 abbrev pub field_bx : ℕ → ℕ
 field_bx = field 14 18
 
+-- the difference of Bx and sBx
+abbrev pub offset_sbx : ℕ
+offset_sbx = 131071
+
 -- "sBx = Bx - 131,071"
 abbrev pub field_sbx : ℕ → ℤ
-field_sbx w = pos (field_bx w) -ℤ pos 131071
+field_sbx w = pos (field_bx w) -ℤ pos offset_sbx
 
 -- ---- the opcodes by their numbers: lopcodes.h's order
 
@@ -149,6 +153,10 @@ CLOSURE = 36
 abbrev pub VARARG : ℕ
 VARARG = 37
 
+-- the number of opcodes
+abbrev pub opcode_count : ℕ
+opcode_count = VARARG + 1
+
 -- the word's opcode is one of these
 unfoldable pub is : ℕ → List ℕ → Bool
 is w ops = elem (opcode w) ops
@@ -198,7 +206,7 @@ number_of VarArg = VARARG
 unfoldable pub opcodes : List Opcode51
 opcodes = Move ∷ LoadK ∷ LoadBool ∷ LoadNil ∷ GetUpval ∷ GetGlobal ∷ GetTable ∷ SetGlobal ∷ SetUpval ∷ SetTable ∷ NewTable ∷ SelfOp ∷ Add ∷ Sub ∷ Mul ∷ Div ∷ Mod ∷ Pow ∷ Unm ∷ Not ∷ Len ∷ Concat ∷ Jmp ∷ Eq ∷ Lt ∷ Le ∷ Test ∷ TestSet ∷ Call ∷ TailCall ∷ Return ∷ ForLoop ∷ ForPrep ∷ TForLoop ∷ SetList ∷ Close ∷ Closure ∷ VarArg ∷ []
 
--- entry k of a list of opcodes; past its end, the number n is not known
+-- entry k of a list of opcodes; past its end, the unknown number n
 unfoldable pub opcode_at : List Opcode51 → ℕ → ℕ → OpcodeField
 opcode_at [] k n = Unknown n
 opcode_at (o ∷ os) zero n = Known o
@@ -208,7 +216,7 @@ opcode_at (o ∷ os) (suc k) n = opcode_at os k n
 unfoldable pub opcode_of : ℕ → OpcodeField
 opcode_of n = opcode_at opcodes n n
 
--- the number in each case of that answer
+-- the number of a known or unknown opcode
 unfoldable pub opcode_number : OpcodeField → ℕ
 opcode_number (Known o) = number_of o
 opcode_number (Unknown n) = n
@@ -221,7 +229,7 @@ pub record Field : Type 0 where
   pub fixed : List ℕ
   pub rk : List ℕ
 
--- its value in a word
+-- the value of an operand field in a word
 abbrev pub operand : Field → ℕ → ℕ
 operand f = field f.position 9
 
@@ -237,12 +245,12 @@ B = record { position = 23; fixed = MOVE ∷ LOADNIL ∷ GETTABLE ∷ SELF ∷ U
 unfoldable pub C : Field
 C = record { position = 14; fixed = CONCAT ∷ []; rk = rk_both ++ GETTABLE ∷ SELF ∷ [] }
 
--- the field that each of the code's two names means
+-- the field that the code's `AtB` or `AtC` means
 abbrev pub field_of : OperandField → Field
 field_of AtB = B
 field_of AtC = C
 
--- ---- the operand rules, each of an opcode
+-- ---- the operand rules of an opcode
 
 -- "A is a register except in JMP, EQ, LT, LE"
 abbrev pub without_a : List ℕ
@@ -259,13 +267,17 @@ is_fixed_register f o = elem (number_of o) f.fixed
 unfoldable pub is_rk : Field → Opcode51 → Bool
 is_rk f o = elem (number_of o) f.rk
 
--- "B or C of 256 or more names constant B - 256 or C - 256 in an RK operand": of the field's value, whether it does
-unfoldable pub is_constant : ℕ → Bool
-is_constant v = leb 256 v
+-- the bit that makes an RK operand a constant
+abbrev pub bitrk_51 : ℕ
+bitrk_51 = 256
 
--- and which constant; a smaller value is the register as it stands
+-- "B or C of 256 or more names constant B - 256 or C - 256 in an RK operand": whether a value names one
+unfoldable pub is_constant : ℕ → Bool
+is_constant v = leb bitrk_51 v
+
+-- the constant that a value names; a smaller value names a register, and stays
 unfoldable pub constant_index : ℕ → ℕ
-constant_index v = cond (is_constant v) (v - 256) v
+constant_index v = cond (is_constant v) (v - bitrk_51) v
 
 -- "JMP, FORLOOP, FORPREP have sBx; LOADK, GETGLOBAL, SETGLOBAL, CLOSURE have Bx; the rest B and C"
 abbrev pub with_sbx : List ℕ

@@ -10,6 +10,15 @@ use std::fmt;
 // The bit that makes an RK operand a constant.
 pub const BITRK_51: u16 = 256;
 
+// sBx is Bx - OFFSET_SBX.
+pub const OFFSET_SBX: u32 = 131071;
+
+// The number of the last known opcode. Greater numbers have no opcode.
+pub const LAST_OPCODE: u8 = Opcode51::VarArg as u8;
+
+// The number of known opcodes, and so of entries in a table by opcode number.
+pub const OPCODE_COUNT: usize = LAST_OPCODE as usize + 1;
+
 // All 38 official Lua 5.1 opcodes.
 #[derive(Debug, Clone, Copy, PartialEq, Eq)]
 pub enum Opcode51 {
@@ -53,15 +62,15 @@ pub enum Opcode51 {
     VarArg = 37,
 }
 
-// An opcode by its number: one of the 38, or the number as it stands, which in a decoded word is its six bits.
-// An enum of its own and no Result, as document 01 has it: known or unknown, held in the decoded word.
+// The opcode of a number: one of the 38, or the unknown number itself, which in a decoded word is its six bits.
+// An enum and not a Result, as in document 01: a decoded word holds a known or an unknown opcode.
 #[derive(Debug, Clone, Copy, PartialEq, Eq)]
 pub enum OpcodeField {
     Known(Opcode51),
     Unknown(u8),
 }
 
-// The operand fields that have rules of one kind: specs/ has them as two values of its own `Field`.
+// B and C, which have the same kinds of rules. In specs/ they are two values of its own `Field`.
 #[derive(Debug, Clone, Copy, PartialEq, Eq)]
 pub enum Field {
     B,
@@ -89,7 +98,7 @@ pub struct RawInstruction51 {
     pub sbx: i32,
 }
 
-// The opcode of a number, where it is known: a definition gives this number for each case. A `match` and no table, since it compiles to a comparison with no load.
+// The opcode of a number, or the unknown number. (A `match` and not a table: it compiles to a comparison without a load.)
 impl From<u8> for OpcodeField {
     ghost from_gives = { λ n o. (o ≡ opcode_of n) × (opcode_number o ≡ n) };
 
@@ -140,7 +149,7 @@ impl From<u8> for OpcodeField {
 }
 
 impl Opcode51 {
-    // Lua's name. It is had from the variant, and so shows which variant a word was decoded to.
+    // Lua's name of the variant, which shows to which variant a word was decoded.
     #[tactic(auto, unfolding(crate::specs::Names::opcode_name))]
     fn name(self) -> &'static str
         ensures { result.now ≡ opcode_name self }
@@ -233,7 +242,7 @@ impl Opcode51 {
         }
     }
 
-    // Whether B, or C, is an RK operand, a register or a constant: C where B is, and in two opcodes more.
+    // Whether B, or C, is an RK operand, which names a register or a constant. C is one wherever B is, and in two more opcodes.
     #[tactic(auto, unfolding(crate::specs::Words::B, crate::specs::Words::C, crate::specs::Words::is_rk, crate::specs::Words::number_of))]
     pub fn is_rk(self, field: Field) -> bool
         ensures { result ≡ is_rk (field_of field) self }
@@ -288,9 +297,6 @@ impl fmt::Display for OpMode51 {
 }
 
 impl RawInstruction51 {
-    // What sBx is less than Bx.
-    pub const OFFSET_SBX: i32 = 131071;
-
     // Splits a word. The field of n bits from bit k on is raw / 2^k % 2^n.
     #[tactic(auto, unfolding(crate::specs::Words::decoded, crate::specs::Words::B, crate::specs::Words::C))]
     pub fn decode(raw: u32) -> RawInstruction51
@@ -302,7 +308,7 @@ impl RawInstruction51 {
         let c = (raw / 0x4000 % 0x200) as u16;
         let b = (raw / 0x80_0000 % 0x200) as u16;
         let bx = raw / 0x4000 % 0x4_0000;
-        let sbx = (bx as i32) - RawInstruction51::OFFSET_SBX;
+        let sbx = (bx as i32) - (OFFSET_SBX as i32);
         RawInstruction51 {
             raw,
             opcode_num,
@@ -332,7 +338,7 @@ impl RawInstruction51 {
         is_k(self.operand(field))
     }
 
-    // The index of the constant that B, or C, names, or its value as it stands.
+    // The index of the constant that B, or C, names, or the field's value as it stands.
     pub fn index_k(self, field: Field) -> u16
         ensures { result ≡ constant_index (operand_in field self) }
     {

@@ -8,7 +8,7 @@ use Rattle.base.specs.Lists.{All, all_nil, all_cons}
 use Rattle.base.specs.Bytes.{overwrite}
 use Rattle.roles_spec.specs.Table.{Row, row_bytes, field_at, row_at, rows, Proto, proto_of, child_of_row, proto_in}
 use Rattle.roles_spec.specs.Bindings.{Binding, unbound, Write, writes, first_binding, binding_total, set_binding, bind_rows, bindings, binding_bytes, binding_records}
-use Rattle.roles_spec.specs.Refusals.{roles_refusal, word_total}
+use Rattle.roles_spec.specs.Refusals.{roles_refusal, word_total, max_upvalues}
 use Rattle.roles.specs.BindingSteps.{max_bindings, RoomForAllOrNone, BindsFrom, stored, bound_in, bound_row, bound_rows}
 use Rattle.base.proofs.ListLaws.{foldl_next}
 use Rattle.base.proofs.AllLaws.{all_imp}
@@ -81,19 +81,19 @@ module _ (table words old first : List ℕ) (room : binding_bytes * binding_tota
             ∙ v.left;
       }
 
-  bind_rows_lem : (n : ℕ) → n ≤ length table / row_bytes → BindFill table words old (bound_rows table words n first) n
+  bind_rows_fill : (n : ℕ) → n ≤ length table / row_bytes → BindFill table words old (bound_rows table words n first) n
   unfolding bound_rows
-  bind_rows_lem zero h = bind_begins
-  bind_rows_lem (suc n) h =
+  bind_rows_fill zero h = bind_begins
+  bind_rows_fill (suc n) h =
       subst⁻¹ (λ (l : List ℕ). BindFill table words old l (suc n)) (foldl_next (bound_row table words) first n)
-      (bind_next (bound_rows table words n first) n (bind_rows_lem n (omega arith)) h)
+      (bind_next (bound_rows table words n first) n (bind_rows_fill n (omega arith)) h)
 
   -- all of them: what the definitions say
   pub rows_bound : bound_rows table words (length table / row_bytes) first ≡ overwrite old 0 (binding_records (bindings (rows table) words))
   unfolding bind_rows
   rows_bound =
       let n = length table / row_bytes in
-      let v = bind_rows_lem n (omega arith) in
+      let v = bind_rows_fill n (omega arith) in
       v.written
       ∙ ap (λ (bs : List Binding). overwrite old 0 (binding_records bs)) (sym (ap (λ (rs : List Row). bind_rows (rows table) rs (words_of table words n) v.made) (rows_end table n (omega arith))) ∙ v.left)
 
@@ -104,11 +104,11 @@ pub record RowsBound (table words old out : List ℕ) (row base : ℕ) : Type 0 
   pub long : length out ≡ length old
   pub before : base ≡ first_binding (rows table) row
 
--- an accepted table has so many upvalues at most
+-- an accepted table has at most `max_bindings` upvalues
 pub few_records : (table words : List ℕ) (role_length : ℕ) → roles_refusal table words role_length ≡ none → binding_total (rows table) ≤ max_bindings
 few_records table words role_length accepted =
     let kept = (roles_kept table words role_length accepted).image in
-    omega (arith, records_most 255 (all_imp (λ r h. h.upvalues) kept.fields), kept.row_limit)
+    omega (arith, records_most max_upvalues (all_imp (λ r h. h.upvalues) kept.fields), kept.row_limit)
 
 module _ (table words old : List ℕ) where
   pub rows_begin : RowsBound table words old old 0 0

@@ -13,7 +13,7 @@ use Rattle.roles.specs.BindingSteps.{bound_by, bound_from, bound_claim, BindsFro
 use Rattle.roles.specs.declared.discovery.Companions.{Companions}
 use Rattle.roles.specs.declared.discovery.Companions.TheVariants.{None, Extra}
 use Rattle.base.proofs.ListLaws.{foldl_flat_map, foldl_same, length_tabulate}
-use Rattle.base.proofs.TestLaws.{t_true}
+use Rattle.base.proofs.BoolLaws.{t_true}
 use Rattle.base.proofs.ByteLaws.{length_u32s, length_overwrite}
 use Rattle.roles_spec.proofs.TableLaws.{child_upvalues}
 use Rattle.roles_spec.proofs.TotalLaws.{records_front, records_next}

@@ -34,15 +34,15 @@ length_image table words = length_bind_rows (rows table) (rows table) (u32s word
 
 -- ---- 1 to 7
 
-module _ {A : Type 0} (table words roleBuffer bindingBuffer : List ℕ) (a : Result A Refusal) (judged : given_refusal a ≡ roles_refusal table words (length roleBuffer)) where
+module _ {A : Type 0} (table words role_buffer binding_buffer : List ℕ) (a : Result A Refusal) (judged : given_refusal a ≡ roles_refusal table words (length role_buffer)) where
   pub refused_call : (r : Refusal) → a ≡ Err r
-      → (answer_of (Err r) ≡ bindings_answer table words (length roleBuffer) (length bindingBuffer))
-      × ((roleBuffer ≡ roles_after table words roleBuffer) × (bindingBuffer ≡ bindings_after table words (length roleBuffer) bindingBuffer))
+      → (answer_of (Err r) ≡ bindings_answer table words (length role_buffer) (length binding_buffer))
+      × ((role_buffer ≡ roles_after table words role_buffer) × (binding_buffer ≡ bindings_after table words (length role_buffer) binding_buffer))
   unfolding answer_of bindings_answer bindings_refusal answer or_else
   refused_call r e =
-      let short = too_short (length (image_bindings table words)) binding_bytes (length bindingBuffer) in
-      let o = ap (λ (x : Option Refused). answer (or_else x short) (length (image_bindings table words))) (refused_by table words roleBuffer a judged r e) in
-      (o, ((refused-roles table words roleBuffer a judged r e).1, sym (bindings_untouched table words roleBuffer bindingBuffer (refused_of r) (sym o))))
+      let short = too_short (length (image_bindings table words)) binding_bytes (length binding_buffer) in
+      let o = ap (λ (x : Option Refused). answer (or_else x short) (length (image_bindings table words))) (refused_by table words role_buffer a judged r e) in
+      (o, ((refused-roles table words role_buffer a judged r e).1, sym (bindings_untouched table words role_buffer binding_buffer (refused_of r) (sym o))))
 
 -- ---- 8, and an accepted call
 
@@ -59,41 +59,41 @@ call_kept table words role_length a x judged e n count =
     let same = count ∙ sym (record_fields table) in
     record { accepted = ok; count = same; few = omega (arith, same, few_records table words role_length ok) }
 
-module _ (table words : List ℕ) (role_length : ℕ) (bindingBuffer : List ℕ) (n : ℕ) (kept : CallKept table words role_length n) where
+module _ (table words : List ℕ) (role_length : ℕ) (binding_buffer : List ℕ) (n : ℕ) (kept : CallKept table words role_length n) where
   image_count : n ≡ length (image_bindings table words)
   image_count = kept.count ∙ sym (length_image table words)
 
-  judged_by : (o : Option Refused) → too_short (length (image_bindings table words)) binding_bytes (length bindingBuffer) ≡ o → bindings_refusal table words role_length (length bindingBuffer) ≡ o
+  judged_by : (o : Option Refused) → too_short (length (image_bindings table words)) binding_bytes (length binding_buffer) ≡ o → bindings_refusal table words role_length (length binding_buffer) ≡ o
   unfolding bindings_refusal or_else
-  judged_by o e = ap (λ (x : Option Refused). or_else x (too_short (length (image_bindings table words)) binding_bytes (length bindingBuffer))) kept.accepted ∙ e
+  judged_by o e = ap (λ (x : Option Refused). or_else x (too_short (length (image_bindings table words)) binding_bytes (length binding_buffer))) kept.accepted ∙ e
 
-  short : length bindingBuffer / binding_bytes < n → bindings_refusal table words role_length (length bindingBuffer) ≡ refuse 8 n
+  short : length binding_buffer / binding_bytes < n → bindings_refusal table words role_length (length binding_buffer) ≡ refuse 8 n
   unfolding too_short refuse_if
   short h =
-      let less : length bindingBuffer < length (image_bindings table words) * binding_bytes = omega (arith, image_count) in
+      let less : length binding_buffer < length (image_bindings table words) * binding_bytes = omega (arith, image_count) in
       judged_by (refuse 8 n) ((rw (lt-ltb _ _ less)) ∙ ap (refuse 8) (sym image_count))
 
-  enough : n ≤ length bindingBuffer / binding_bytes → bindings_refusal table words role_length (length bindingBuffer) ≡ none
+  enough : n ≤ length binding_buffer / binding_bytes → bindings_refusal table words role_length (length binding_buffer) ≡ none
   unfolding too_short refuse_if
   enough h =
-      let fits : length (image_bindings table words) * binding_bytes ≤ length bindingBuffer = omega (arith, image_count) in
+      let fits : length (image_bindings table words) * binding_bytes ≤ length binding_buffer = omega (arith, image_count) in
       judged_by none (rw (le-ltb _ _ fits))
 
-  pub short_call : length bindingBuffer / binding_bytes < n
-      → (answer_of (Err (refusal.BufferTooShort n)) ≡ bindings_answer table words role_length (length bindingBuffer)) × (bindingBuffer ≡ bindings_after table words role_length bindingBuffer)
+  pub short_call : length binding_buffer / binding_bytes < n
+      → (answer_of (Err (refusal.BufferTooShort n)) ≡ bindings_answer table words role_length (length binding_buffer)) × (binding_buffer ≡ bindings_after table words role_length binding_buffer)
   unfolding answer_of refused_of bindings_answer bindings_after answer refuse
   short_call h =
       let o = ap (λ (x : Option Refused). answer x (length (image_bindings table words))) (short h) in
-      (sym o, sym (refused_leaves (bindings_refusal table words role_length (length bindingBuffer)) _ (refused_of (refusal.BufferTooShort n)) bindingBuffer _ o))
+      (sym o, sym (refused_leaves (bindings_refusal table words role_length (length binding_buffer)) _ (refused_of (refusal.BufferTooShort n)) binding_buffer _ o))
 
   -- the records that bind nothing are written first, and bound row by row
-  pub accepted_call : (first new : List ℕ) → n ≤ length bindingBuffer / binding_bytes → first ≡ overwrite bindingBuffer 0 (binding_records (replicate n unbound))
+  pub accepted_call : (first new : List ℕ) → n ≤ length binding_buffer / binding_bytes → first ≡ overwrite binding_buffer 0 (binding_records (replicate n unbound))
       → new ≡ bound_rows table (u32s words) (length table / row_bytes) first
-      → (answer_of (Ok n) ≡ bindings_answer table words role_length (length bindingBuffer)) × (new ≡ bindings_after table words role_length bindingBuffer)
+      → (answer_of (Ok n) ≡ bindings_answer table words role_length (length binding_buffer)) × (new ≡ bindings_after table words role_length binding_buffer)
   unfolding answer_of bindings_answer bindings_after answer filled image_bindings
   accepted_call first new h d e = (
     ap (λ (k : ℕ). answer none k) image_count ∙ sym (ap (λ (x : Option Refused). answer x (length (image_bindings table words))) (enough h)),
     e
-        ∙ rows_bound table (u32s words) bindingBuffer first (omega (arith, kept.count)) (d ∙ ap (λ (k : ℕ). overwrite bindingBuffer 0 (binding_records (replicate k unbound))) kept.count)
-        ∙ sym (ap (λ (x : Option Refused). filled x bindingBuffer (binding_records (image_bindings table words))) (enough h)),
+        ∙ rows_bound table (u32s words) binding_buffer first (omega (arith, kept.count)) (d ∙ ap (λ (k : ℕ). overwrite binding_buffer 0 (binding_records (replicate k unbound))) kept.count)
+        ∙ sym (ap (λ (x : Option Refused). filled x binding_buffer (binding_records (image_bindings table words))) (enough h)),
   )

@@ -12,7 +12,7 @@ use Rattle.roles_spec.proofs.TotalLaws.{total_append, sum_append}
 -- ---- a field of all rows
 
 module _ (get : Row → ℕ) where
-  -- it is that of the bytes
+  -- the sum of a field over the rows is the sum over their bytes
   sum_values : (f : ℕ → Row) (g : ℕ → ℕ) → ((i : ℕ) → get (f i) ≡ g i) → (i n : ℕ) → total (map get (map f (up_from i n))) ≡ total (map g (up_from i n))
   sum_values f g e i zero = refl
   sum_values f g e i (suc n) = ap₂ (λ (a b : ℕ). a + b) (e i) (sum_values f g e (suc i) n)
@@ -40,7 +40,7 @@ module _ (table : List ℕ) where
   unfolding records_between first_binding
   between_front j = let z : j - 0 ≡ j = omega arith in ap (λ (n : ℕ). binding_total (take n (rows table))) z
 
-  -- first up to a row, and then on
+  -- the records up to a row, and then those from it on
   pub between_join : (i j k : ℕ) → i ≤ j → j ≤ k → records_between table i k ≡ records_between table i j + records_between table j k
   unfolding records_between binding_total
   between_join i j k h l =
@@ -51,14 +51,14 @@ module _ (table : List ℕ) where
       ∙ sum_append (λ r. r.upvalues) (take (j - i) (drop i (rows table))) (take (k - j) (drop (j - i) (drop i (rows table))))
       ∙ ap (λ (l : List Row). binding_total (take (j - i) (drop i (rows table))) + binding_total (take (k - j) l)) (drop-drop (j - i) i (rows table) ∙ ap (λ (n : ℕ). drop n (rows table)) n)
 
-  -- the first of them
+  -- the records of the first row, and then the others
   pub between_next : (i k : ℕ) → i < length table / row_bytes → i < k → records_between table i k ≡ field_at table i 3 + records_between table (suc i) k
   unfolding records_between binding_total row_at
   between_next i k there h =
       let m : k - i ≡ suc (k - suc i) = omega arith in
       ap₂ (λ (n : ℕ) (l : List Row). binding_total (take n l)) m (drop_rows table i there)
 
-  -- those of one row
+  -- the records of one row
   pub between_one : (i : ℕ) → i < length table / row_bytes → records_between table i (i + 1) ≡ field_at table i 3
   between_one i there = omega (arith, between_next i (i + 1) there (omega arith), none_between (suc i) (i + 1) (omega arith))
 

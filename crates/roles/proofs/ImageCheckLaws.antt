@@ -15,9 +15,9 @@ module _ (table words : List ℕ) (room : ℕ) (image : none ≡ image_refusal t
   words_stated : length words ≡ 4 * word_total (rows table)
   words_stated = (image_kept table words (sym image)).word_count
 
-  pub too_short_lem : room / 8 < length words / 4 → refuse 7 0 ≡ roles_refusal table words room
+  pub roles_too_short : room / 8 < length words / 4 → refuse 7 0 ≡ roles_refusal table words room
   unfolding roles_refusal or_else refuse_if
-  too_short_lem h = let less : room < 8 * word_total (rows table) = omega (arith, words_stated) in rw (← image, lt-ltb _ _ less)
+  roles_too_short h = let less : room < 8 * word_total (rows table) = omega (arith, words_stated) in rw (← image, lt-ltb _ _ less)
 
   pub fits_roles : length words / 4 ≤ room / 8 → none ≡ roles_refusal table words room
   unfolding roles_refusal or_else refuse_if

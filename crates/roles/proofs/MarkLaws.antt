@@ -38,7 +38,7 @@ unfolding claimed_roles owned_bindings
 owned_roles pc zero first = refl
 owned_roles pc (suc n) first = refl
 
--- so many were marked, from byte `at` on
+-- n companions are marked, from byte `at` on
 abbrev pub Marked : List ℕ → List ℕ → ℕ → ℕ → ℕ → Companions → ℕ → Type 0
 Marked old new at pc room cs n =
     (n ≡ length (take room (claimed_roles pc cs))) × ((new ≡ overwrite old at (records_of (take room (claimed_roles pc cs)))) × (n ≤ room))
@@ -76,7 +76,7 @@ module _ (old new : List ℕ) (at pc room : ℕ) (cs : Companions) where
   pub marked_extra : (n : ℕ) → cs ≡ Extra → n ≡ length (take room (claimed_roles pc Extra)) → new ≡ overwrite old at (records_of (take room (claimed_roles pc Extra))) → Marked old new at pc room cs n
   marked_extra n e l d = these (take room (claimed_roles pc Extra)) n (ap (λ (x : Companions). take room (claimed_roles pc x)) e) l d
 
--- in the records after the owner's, of n
+-- companions that are marked in the part after the owner's record are marked in the buffer of n records
 pub marked_part : (old part : List ℕ) (pc n k : ℕ) (cs : Companions) (size : ℕ) → pc < n → role_bytes * n ≤ length old → size ≡ role_bytes * n - role_bytes * (pc + 1)
     → Marked (take size (drop (role_bytes * (pc + 1)) old)) part 0 pc (length (take size (drop (role_bytes * (pc + 1)) old)) / role_bytes) cs k
     → Marked old (take (role_bytes * (pc + 1)) old ++ (part ++ drop size (drop (role_bytes * (pc + 1)) old))) (role_bytes * (pc + 1)) pc (n - pc - 1) cs k

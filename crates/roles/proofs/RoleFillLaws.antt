@@ -5,7 +5,7 @@ use mathlib.Core.Option.{Option, none}
 use Rattle.base.specs.Bytes.{u32s, overwrite}
 use Rattle.roles_spec.specs.Table.{Row, row_bytes, field_at, row_at, rows, Proto, proto_of, protos_of, protos, proto_in}
 use Rattle.roles_spec.specs.Roles.{Role, roles, role_bytes, records_of}
-use Rattle.roles_spec.specs.Refusals.{Refused, word_total, roles_refusal}
+use Rattle.roles_spec.specs.Refusals.{Refused, word_total, roles_refusal, max_word_bytes, max_rows}
 use Rattle.roles_spec.specs.Calls.{filled, roles_after}
 use Rattle.base.proofs.ListLaws.{flat_map_append}
 use Rattle.base.proofs.ByteLaws.{length_u32s, length_overwrite}
@@ -13,7 +13,7 @@ use Rattle.base.proofs.PartLaws.{paste}
 use Rattle.roles_spec.proofs.TableLaws.{length_rows, drop_rows, length_protos_of}
 use Rattle.roles_spec.proofs.TotalLaws.{words_front, words_next, protos_drop}
 use Rattle.roles_spec.proofs.RefusalLaws.{ImageKept, roles_kept}
-use Rattle.roles_spec.proofs.RoleBufferLaws.{length_roles, words_before, words_before_lem}
+use Rattle.roles_spec.proofs.RoleBufferLaws.{length_roles, words_before, words_before_total}
 use Rattle.roles_spec.proofs.RowPartLaws.{part, part_proto}
 use Rattle.roles_spec.proofs.RoleRecordLaws.{length_records, records_none, records_next}
 use Rattle.roles.proofs.RolePassLaws.{take_front}
@@ -66,18 +66,18 @@ module _ (table words old : List ℕ) (accepted : roles_refusal table words (len
         ∙ sym (ap (λ (o : Option Refused). filled o old (records_of (flat_map roles ps))) accepted)
 
     module _ (there : row < length table / row_bytes) (n : ℕ) (stated : n ≡ field_at table row 1) where
-      pub words_of_lem : (row_at table row).words ≡ n
+      pub row_words : (row_at table row).words ≡ n
       unfolding row_at
-      words_of_lem = sym stated
+      row_words = sym stated
 
       -- the row's words and its part of the buffer are there
       next : first + n ≡ word_total (take (suc row) (rows table))
-      next = omega (arith, words_next table row there, words_of_lem, v.before)
+      next = omega (arith, words_next table row there, row_words, v.before)
 
-      pub rows_there : (row_bytes * row + row_bytes ≤ length table) × (length table / row_bytes ≤ 16384)
+      pub rows_there : (row_bytes * row + row_bytes ≤ length table) × (length table / row_bytes ≤ max_rows)
       rows_there = (omega arith, omega (arith, kept.row_limit, length_rows table))
 
-      pub words_there : (4 * (first + n) ≤ 4194304) × (4 * (first + n) ≤ length words) × (role_bytes * (first + n) ≤ length out)
+      pub words_there : (4 * (first + n) ≤ max_word_bytes) × (4 * (first + n) ≤ length words) × (role_bytes * (first + n) ≤ length out)
       words_there = (
         omega (arith, next, words_front (rows table) (suc row), kept.word_count, kept.word_limit),
         omega (arith, next, words_front (rows table) (suc row), kept.word_count),
@@ -97,9 +97,9 @@ module _ (table words old : List ℕ) (accepted : roles_refusal table words (len
           ∙ ap (λ (k : ℕ). proto_in table row (drop k (u32s words)) ∷ protos_of (drop (suc row) (rows table)) (drop (row_at table row).words words_left)) (sym v.before) in
           let one : take (row + 1) ps ≡ take row ps ++ (p ∷ []) = take_front ps row (p ∷ []) _ front in
           let more : flat_map roles (take (row + 1) ps) ≡ rs ++ roles p = ap (flat_map roles) one ∙ flat_map_append roles (take row ps) (p ∷ []) ∙ ap (λ (l : List Role). rs ++ l) (append-nil (roles p)) in
-          let here : length rs ≡ first = words_before_lem (rows table) (u32s words) row (omega (arith, length_u32s words, kept.word_count)) ∙ sym v.before in
+          let here : length rs ≡ first = words_before_total (rows table) (u32s words) row (omega (arith, length_u32s words, kept.word_count)) ∙ sym v.before in
           let bounds = words_there in
-          let few : length (roles p) ≤ n = omega (arith, roles_most table row (drop first (u32s words)), words_of_lem) in
+          let few : length (roles p) ≤ n = omega (arith, roles_most table row (drop first (u32s words)), row_words) in
           let written : new ≡ overwrite old 0 (records_of (rs ++ roles p)) =
           records_next old out new 0 (role_bytes * first) rs (roles p) (omega arith) (omega (arith, bounds.2, v.long)) v.written e in
           record {

@@ -125,7 +125,7 @@ module _ (table : List ℕ) (row : ℕ) (code : List ℕ) (stated : (row_at tabl
             written = all ∙ ap (λ (l : List Role). overwrite old 0 (records_of l)) (sym (ap (λ (n : ℕ). take n (roles p)) to ∙ take_front (roles p) pc (Instruction ∷ mine) _ front));
           }
 
-      -- it is executable, and so many companions exist
+      -- the word is executable, and this many of its companions exist
       word_here : word_at p pc ≡ w
       unfolding word_at
       word_here = ap (λ (l : List ℕ). get_or l pc 0) code_of ∙ sym word

@@ -12,17 +12,17 @@ use Rattle.roles_spec.proofs.TableLaws.{length_rows}
 use Rattle.roles_spec.proofs.RefusalLaws.{ImageKept, roles_kept}
 use Rattle.roles_spec.proofs.RefusedCallLaws.{roles_untouched}
 
-module _ {A : Type 0} (table words roleBuffer : List ℕ) (a : Result A Refusal) (judged : given_refusal a ≡ roles_refusal table words (length roleBuffer)) where
-  pub refused_by : (r : Refusal) → a ≡ Err r → some (refused_of r) ≡ roles_refusal table words (length roleBuffer)
+module _ {A : Type 0} (table words role_buffer : List ℕ) (a : Result A Refusal) (judged : given_refusal a ≡ roles_refusal table words (length role_buffer)) where
+  pub refused_by : (r : Refusal) → a ≡ Err r → some (refused_of r) ≡ roles_refusal table words (length role_buffer)
   unfolding given_refusal
   refused_by r e = sym (ap given_refusal e) ∙ judged
 
   -- a refused call answers so and writes nothing
-  pub refused_call : (r : Refusal) → a ≡ Err r → (answer_of (Err r) ≡ roles_answer table words (length roleBuffer)) × (roleBuffer ≡ roles_after table words roleBuffer)
+  pub refused_call : (r : Refusal) → a ≡ Err r → (answer_of (Err r) ≡ roles_answer table words (length role_buffer)) × (role_buffer ≡ roles_after table words role_buffer)
   unfolding answer_of roles_answer answer
   refused_call r e =
       let o = ap (λ (x : Option Refused). answer x (word_total (rows table))) (refused_by r e) in
-      (o, sym (roles_untouched table words roleBuffer (refused_of r) (sym o)))
+      (o, sym (roles_untouched table words role_buffer (refused_of r) (sym o)))
 
 pub not_refused : {A : Type 0} (table words : List ℕ) (room : ℕ) (a : Result A Refusal) (x : A) → given_refusal a ≡ roles_refusal table words room → a ≡ Ok x → roles_refusal table words room ≡ none
 unfolding given_refusal

@@ -110,7 +110,7 @@ same_child n r m s e =
     let same : ◌≡◌ {A = Child} (record { first = n; row = r }) (record { first = m; row = s }) = cc in
     (ap (λ (c : Child). c.row) same, ap (λ (c : Child). c.first) same)
 
--- where there is no first child, there is none
+-- where there is no first child, there is no child k
 pub first_missing : (table : List ℕ) (at d k first : ℕ) → maybe.None ≡ search table at d 0 first → maybe.None ≡ search table at d k first
 unfolding child_from child_at
 first_missing table at d k first e =
@@ -160,7 +160,7 @@ module _ (table : List ℕ) (parent : ℕ) where
   abbrev child_of : ℕ → Maybe Child
   child_of k = child_from table (suc parent) 0 (child_of_row table parent k)
 
-  -- child k stands in row r, and so many binding records before its own
+  -- child k stands in row r, and `first` binding records stand before its own
   pub record FoundChild (k r first : ℕ) : Type 0 where
     pub there : r < length table / row_bytes
     pub later : parent < r

@@ -9,11 +9,11 @@ use Rattle.roles_spec.specs.Table.{row_count}
 abbrev pub FewRows : List ℕ → Type 0
 FewRows table = row_count table ≤ max_rows
 
--- it has row i
+-- a table has row i
 abbrev pub HasRow : List ℕ → ℕ → Type 0
 HasRow table i = i < row_count table
 
--- so many entries are one for each of its rows
+-- n entries are enough: one for each row of a table
 abbrev pub CoversRows : List ℕ → ℕ → Type 0
 CoversRows table n = row_count table ≤ n
 
@@ -21,7 +21,7 @@ CoversRows table n = row_count table ≤ n
 abbrev pub FewWords : List ℕ → Type 0
 FewWords code = length code ≤ max_word_bytes
 
--- they have the word at pc
+-- there is a word at pc
 abbrev pub HasWord : List ℕ → ℕ → Type 0
 HasWord code pc = pc < length code / 4
 

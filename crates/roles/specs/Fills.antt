@@ -4,7 +4,7 @@ use Rattle.base.specs.Bytes.{u32s}
 use Rattle.roles_spec.specs.Calls.{roles_after}
 use Rattle.roles_spec.specs.Table.{row_bytes}
 use Rattle.roles.specs.BindingSteps.{bound_rows}
-use Rattle.roles.specs.declared.filling.Filling.{Filling}
+use Rattle.roles.specs.declared.buffers.Filling.{Filling}
 
 -- the roles and the bindings of all rows, in the same two buffers
 pub record Fills (old new : Filling) : Type 0 where

@@ -37,7 +37,7 @@ refused_of refusal.WordCountMismatch = record { number = 6; figure = 0 }
 refused_of refusal.RoleBufferTooShort = record { number = 7; figure = 0 }
 refused_of (refusal.BufferTooShort records) = record { number = 8; figure = records }
 
--- the refusal that it stands for, if any
+-- the refusal of a result, if any
 unfoldable pub given_refusal : {A : Type 0} → Result A Refusal → Option Refused
 given_refusal (Err r) = some (refused_of r)
 given_refusal (Ok a) = none
@@ -57,37 +57,37 @@ column_index column.Constants = 2
 column_index column.Upvalues = 3
 column_index column.Stack = 4
 
--- field k of all rows, added up
+-- the sum of field k over all rows
 unfoldable pub field_total : List ℕ → ℕ → ℕ
 field_total table k = total (tabulate (row_count table) (λ i. field_at table i k))
 
 -- ---- children
 
--- so many binding records have the rows from i on that stand before row j
+-- the number of binding records of the rows from i on that stand before row j
 unfoldable pub records_between : List ℕ → ℕ → ℕ → ℕ
 records_between table i j = binding_total (slice_range (rows table) i j)
 
--- where a child was found: the index of its first binding record, if that of row `at` has index `first`, and its row. The code counts records
+-- a child that was found: its row, and the index of its first binding record, counted from `first`, the index of row `at`'s. The code counts records
 -- modulo 2 ^ 32
 unfoldable pub child_from : List ℕ → ℕ → ℕ → Option Row → Maybe Child
 child_from table at first none = maybe.None
 child_from table at first (some r) = maybe.Some (record { first = (first + records_between table at r.row) % 2 ^ 32; row = r.row })
 
--- the child that an entry of an index is
+-- an entry of an index, as a child
 abbrev pub found_at : Entry → Maybe Child
 found_at e = maybe.Some (record { first = e.first; row = e.row })
 
--- child i in an index, which has an entry for each: its row and the index of its first binding record
+-- child i, by its entry in an index
 abbrev pub in_index : List Entry → ℕ → Maybe Child
 in_index index i = found_at (slice_index_or index i (record { row = 0; first = 0 }))
 
--- it has room for as many children as there are rows
+-- an index has room for as many children as there are rows
 abbrev pub RoomForChildren : List ℕ → List Entry → Type 0
 RoomForChildren table index = CoversRows table (length index)
 
--- what is known of the children of the prototype in row `parent`: the first `known` of them stand in the index; from row `row` on, its children
--- are counted from that number; `first` is how many binding records stand between the prototype's own and those of that row, modulo 2 ^ 32; from
--- `end` on there are no children
+-- what is known of the children of the prototype in row `parent`: the first `known` of them stand in the index; the next ones are in the rows from
+-- `row` on; `first` is the number of binding records, modulo 2 ^ 32, between the prototype's own and those of that row; from number `end` on there
+-- are no children
 pub record Tracks (table : List ℕ) (parent : ℕ) (index : List Entry) (known row first end : ℕ) : Type 0 where
   pub room : RoomForChildren table index
   pub within : known ≤ end
@@ -100,12 +100,12 @@ pub record Tracks (table : List ℕ) (parent : ℕ) (index : List Entry) (known 
 
 -- ---- companions
 
--- so many binding records, modulo 2 ^ 32, stand between those of a row and those of its child
+-- the number of binding records, modulo 2 ^ 32, between those of a row and those of its child
 unfoldable pub records_before : List ℕ → ℕ → Option Row → ℕ
 records_before table row none = 0
 records_before table row (some c) = records_between table (suc row) c.row % 2 ^ 32
 
--- so many binding words, or none, of a child; `first` binding records stand between those of the row and those of the child
+-- the binding words of a child, if there are any; `first` binding records stand between those of the row and those of the child
 unfoldable pub owned_bindings : ℕ → ℕ → Companions
 owned_bindings zero first = None
 owned_bindings (suc n) first = Bindings (suc n) first
@@ -118,7 +118,7 @@ child_bindings table row k = owned_bindings (slice_index (proto_in table row [])
 unfoldable pub companions_of : List ℕ → ℕ → ℕ → Companions
 companions_of table row w = cond (is w (CLOSURE ∷ [])) (child_bindings table row (field_bx w)) (cond (has_extra w) Extra None)
 
--- the roles that they take
+-- the roles that companions of the owner at pc take
 unfoldable pub claimed_roles : ℕ → Companions → List Role
 claimed_roles pc None = []
 claimed_roles pc (Bindings n first) = tabulate n (ClosureBinding pc)
@@ -126,13 +126,13 @@ claimed_roles pc Extra = SetlistExtra pc ∷ []
 
 -- ---- roles
 
--- a role
+-- a role of the code, as the definitions have it
 abbrev pub role_of : Lua51PhysicalRole → Role
 role_of physical.Instruction = Instruction
 role_of (physical.ClosureBinding owner index) = ClosureBinding owner index
 role_of (physical.SetlistExtra owner) = SetlistExtra owner
 
--- the pc of its owner, where it is a companion's
+-- the pc of a companion's owner
 abbrev pub companion_pc : Role → Maybe ℕ
 companion_pc Instruction = maybe.None
 companion_pc (ClosureBinding owner index) = maybe.Some owner

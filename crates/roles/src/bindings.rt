@@ -14,7 +14,7 @@ use opcodes::{Opcode51, RawInstruction51};
 // The length of a record in bytes.
 pub const BINDING_BYTES: usize = 12;
 
-// Writes the record of an upvalue that nothing binds, so many times. (By number, as binding words write theirs: one function for both.)
+// Writes `count` records of upvalues that nothing binds. (Each is written by its number, as binding words write theirs: one function for both.)
 #[tactic(auto, using(roles_spec::proofs::BindingRecordLaws::unbound_none, roles_spec::proofs::BindingRecordLaws::unbound_next))]
 pub fn unbind(bindings: &mut [u8], count: usize)
     requires { binding_bytes * count ≤ length bindings.old }
@@ -25,8 +25,8 @@ pub fn unbind(bindings: &mut [u8], count: usize)
     }
 }
 
-// The words of a prototype that are the companions of the owner at pc, as far as they exist. (Not their part of the code: a record has a word's pc,
-// which is its index in the whole.)
+// The code of a prototype, the pc of an owner in it, and how many of the owner's companions exist. (The whole code and not only the companions: a
+// record has a word's pc, which is its index in the whole code.)
 #[derive(Clone, Copy)]
 pub struct CompanionWords<'a> {
     pub code: &'a [u8],
@@ -35,8 +35,8 @@ pub struct CompanionWords<'a> {
     ghost there: { HasWord code.now (pc + existing) × FewWords code.now },
 }
 
-// The words of an owner's companions bind the upvalues of a child, where it is a CLOSURE that has one. Nothing is written to a buffer that has
-// room for no record.
+// Binds the upvalues of a child by the companions of an owner, where the owner is a CLOSURE of such a child. Nothing is written to a buffer without
+// room for a record.
 pub fn bind_claim(bindings: &mut [u8], base: usize, companions: Companions, words: &CompanionWords)
     requires few_bindings { base ≤ max_bindings }
     requires bindable { Bindable base words.now.existing (length bindings.old) companions }
@@ -49,7 +49,7 @@ pub fn bind_claim(bindings: &mut [u8], base: usize, companions: Companions, word
     }
 }
 
-// The same through the part of the buffer that the child's records are.
+// Binds the upvalues of a child in the part of the buffer that has the child's records.
 fn bind_child(bindings: &mut [u8], first: usize, upvalues: usize, words: &CompanionWords)
     requires { (words.now.existing ≤ upvalues) × (binding_bytes * (first + upvalues) ≤ length bindings.old) }
     ensures { bindings.new ≡ bound_from (u32s words.now.code.now) (words.now.pc + 1) first words.now.existing bindings.old }
@@ -60,7 +60,7 @@ fn bind_child(bindings: &mut [u8], first: usize, upvalues: usize, words: &Compan
     );
 }
 
-// The words each set a record, in order.
+// Each of the companions sets a record, in order.
 #[tactic(auto, using(crate::proofs::BindingStepLaws::bound_none, crate::proofs::BindingStepLaws::bound_more))]
 fn bind_words(records: &mut [u8], words: &CompanionWords)
     requires { binding_bytes * words.now.existing ≤ length records.old }
@@ -73,7 +73,7 @@ fn bind_words(records: &mut [u8], words: &CompanionWords)
 }
 
 // The binding word at pc sets record i: MOVE to a register, GETUPVAL to an upvalue of the parent. Another opcode leaves it.
-// Told by number, as owners are: with both matched by `Opcode51`, the bindings call on many bindings takes 10.5 ms and not 8.8 (minima of 60 turns).
+// (The opcode is told by its number, as an owner's is: docs/DECISIONS.md has the measurement.)
 #[tactic(auto, using(crate::proofs::BindingStepLaws::bound_move, crate::proofs::BindingStepLaws::bound_getupval, crate::proofs::BindingStepLaws::bound_other))]
 fn bind_word(records: &mut [u8], i: usize, pc: u32, word: u32)
     requires { HasRecord binding_bytes i records.old }

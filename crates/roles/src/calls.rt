@@ -1,11 +1,11 @@
-// The roles call and the bindings call. Slices and buffers are parameters, each by itself, as the C calls hand them on.
+// The roles call and the bindings call. Each slice and each buffer is a parameter of its own, as in the C calls.
 ghost use Rattle.std.specs.Prelude.{◌≡◌, ◌+◌, ◌*◌, ◌/◌, ◌≤◌, length, drop};
 ghost use Rattle.std.proofs.Math.Option.{none};
 ghost use Rattle.base.specs.Bytes.{overwrite, u32s};
 ghost use Rattle.roles_spec.specs.Calls.{bindings_after, bindings_answer, roles_after, roles_answer};
 ghost use Rattle.roles_spec.specs.Bindings.{writes};
 ghost use Rattle.roles_spec.specs.Refusals.{max_rows, max_word_bytes, roles_refusal};
-ghost use Rattle.roles_spec.specs.Roles.{records_of, role_bytes, roles as protoRoles};
+ghost use Rattle.roles_spec.specs.Roles.{records_of, role_bytes, roles as proto_roles};
 ghost use Rattle.roles_spec.specs.Table.{proto_in, row_at, row_bytes};
 ghost use Rattle.roles.specs.BindingSteps.{BindsFrom, RoomForAllOrNone, bound_in, bound_rows};
 ghost use Rattle.roles.specs.Terms.{RoomForChildren, answer_of};
@@ -14,7 +14,7 @@ ghost use Rattle.roles.specs.Bounds.{AcceptedFor};
 ghost use Rattle.roles.specs.declared.refusals.Refusal.TheVariants.{BufferTooShort};
 
 use crate::bindings::{BINDING_BYTES, unbind};
-use crate::filling::Filling;
+use crate::buffers::Filling;
 use crate::refusals::{Refusal, check_roles, field_total};
 use crate::table::Column;
 
@@ -56,7 +56,7 @@ pub fn write_bindings(
     Ok(count)
 }
 
-// Refusal 8, for so many records: the roles are written all the same.
+// Refusal 8, with the number of records needed. The roles are written all the same.
 fn refuse_short(table: &[u8], words: &[u8], out: &mut [u8], records: u32) -> Result<u32, Refusal>
     requires { AcceptedFor table.now words.now out.old }
     ensures value { result ≡ Err (BufferTooShort records) }

@@ -18,9 +18,9 @@ use crate::table::{Child, Column, Row};
 use base::bytes::u32_at;
 use opcodes::{Opcode51, RawInstruction51};
 
-// The words that an executable word owns: none, those that bind a child's upvalues, or a SETLIST's extra word. Bindings have their number, and
-// how many binding records stand between the prototype's own and those of the child. (No `Option` of two cases: `mark` goes by all three, and
-// `bind_claim` asks for one, which would stand one pattern deeper.)
+// The words that an executable word owns: none, the binding words of a child's upvalues, or a SETLIST's extra word. `Bindings` has the number of the
+// words, and the number of binding records between the prototype's own and those of the child. (Not an `Option` of two cases: `mark` tells all three
+// apart, and the pattern in `bind_claim` would be one level deeper.)
 #[derive(Clone, Copy)]
 pub enum Companions {
     None,
@@ -28,10 +28,9 @@ pub enum Companions {
     Extra,
 }
 
-// Writes the roles of a prototype's words to the front of its part of the role buffer, and binds the upvalues of its children; the binding
-// records of the rows after its own begin at index `base`. Each word is read at most once: an owner marks its companions, as far as they exist, a
-// CLOSURE lets them bind, and the next word to be looked at is the one after them. (The whole bindings buffer and `base`: one that is lent for no
-// bindings has no part that begins there.)
+// Writes the roles of a prototype's words to the front of its part of the role buffer, and binds the upvalues of its children. The binding records of
+// the rows after its own begin at index `base`. Each word is read at most once: an owner's companions, as far as they exist, are marked, those of a
+// CLOSURE bind, and the pass goes on after them. (The bindings buffer is lent whole: where it has room for none, no part of it begins at `base`.)
 pub(crate) fn discover_roles_lua51(
     children: &mut Children,
     code: &[u8],
@@ -48,7 +47,7 @@ pub(crate) fn discover_roles_lua51(
 {
     let n = code.len() / 4;
     let mut pc = 0;
-    // A `while`: a word goes on by as many words as it owns.
+    // A `while`: the pass goes on after the companions of each word.
     while pc < n {
         let companions = claim_of(children, u32_at(code, pc));
         write_role(out, pc, Lua51PhysicalRole::Instruction);
@@ -63,8 +62,8 @@ pub(crate) fn discover_roles_lua51(
     }
 }
 
-// What an executable word of the row owns. An owner is told by the number of its opcode: matched by `Opcode51`, which makes a jump, the roles call
-// on words of any bits takes 6.8 ms and not 2.7 (220,000 mispredicted branches and not 70,000 in two calls by cachegrind; minima of 60 turns).
+// What an executable word of the row owns. An owner is told by the number of its opcode and not by matching `Opcode51`, which makes a jump that is
+// often mispredicted: docs/DECISIONS.md has the measurement.
 #[tactic(auto, using(crate::proofs::CompanionLaws::owns_bindings, crate::proofs::CompanionLaws::owns_extra, crate::proofs::CompanionLaws::owns_nothing))]
 fn claim_of(children: &mut Children, word: u32) -> Companions
     ensures owned { result ≡ companions_of children.old.parent.table.now children.old.parent.number word }
@@ -94,7 +93,7 @@ fn claim_child(children: &mut Children, k: u32) -> Companions
     }
 }
 
-// So many binding words, or none, of a child, with how many binding records stand between the prototype's own and the child's.
+// `count` binding words of a child, or nothing where it is 0. `first` is the number of binding records between the prototype's own and the child's.
 #[tactic(auto, unfolding(crate::specs::Terms::owned_bindings))]
 fn binding_words(count: u32, first: u32) -> Companions
     ensures { result ≡ owned_bindings count first }
@@ -130,7 +129,7 @@ fn mark(records: &mut [u8], pc: u32, companions: Companions) -> usize
     }
 }
 
-// Marks so many binding words of the CLOSURE at pc, as far as they exist.
+// Marks `count` binding words of the CLOSURE at pc, as far as they exist.
 fn mark_bindings(records: &mut [u8], pc: u32, count: u32) -> usize
     ensures value { result ≡ min (length records.old / role_bytes) count }
     ensures records_after { records.new ≡ overwrite records.old 0 (records_of (tabulate result (ClosureBinding pc))) }

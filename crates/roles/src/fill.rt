@@ -6,15 +6,15 @@ ghost use Rattle.roles.specs.Bounds.{CoversRows};
 ghost use Rattle.roles.specs.Fills.{Fills};
 ghost use Rattle.roles.specs.Terms.{RoomForChildren};
 
+use crate::buffers::Filling;
 use crate::discovery::discover_roles_lua51;
-use crate::filling::Filling;
-use crate::refusals::MAX_ROWS;
+use crate::refusals::{FEW_ROWS, MAX_ROWS};
 use crate::role::ROLE_BYTES;
 use crate::search::{Children, Entry};
-use crate::table::{Column, FEW_ROWS, ROW_BYTES, Row};
+use crate::table::{Column, ROW_BYTES, Row};
 
 impl<'a> Filling<'a> {
-    // Writes the roles and the bindings, with an index for the search for children: a short one where it will do.
+    // Writes the roles and the bindings, with an index of children for the search: a short one where the rows are few.
     #[tactic(auto, using(crate::proofs::RolesCallLaws::few_rows))]
     pub(crate) fn fill(&mut self)
         ensures { Fills self.old self.new }
@@ -26,7 +26,7 @@ impl<'a> Filling<'a> {
         }
     }
 
-    // The same with an index of N children.
+    // Writes the roles and the bindings, with an index of N children.
     fn fill_within<const N: usize>(&mut self)
         requires room_for_children { CoversRows self.old.table.now N × (N ≤ max_rows) }
         ensures { Fills self.old self.new }
@@ -35,8 +35,8 @@ impl<'a> Filling<'a> {
         self.fill_indexed(&mut index);
     }
 
-    // The same with an index that has room, prototype by prototype: the words of a row, from `first` to `next`, and their part of the role buffer.
-    // The binding records of the rows after it begin at index `base`.
+    // Writes the roles and the bindings, prototype by prototype, with an index that has room. The words of a row, and their roles, stand from `first`
+    // to `next`. The binding records of the rows after it begin at index `base`.
     #[tactic(auto, using(crate::proofs::RoleFillLaws::words_there))]
     fn fill_indexed(&mut self, index: &mut [Entry])
         requires room_for_children { RoomForChildren self.old.table.now index.old }

@@ -2,10 +2,10 @@
 #![tactic(auto)]
 
 mod bindings;
+mod buffers;
 pub mod calls;
 mod discovery;
 mod fill;
-mod filling;
 pub mod refusals;
 pub mod role;
 mod search;

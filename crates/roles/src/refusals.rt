@@ -1,4 +1,4 @@
-// Refusals 1 to 7, the least number first. Nothing is written before they are excluded. Refusal 8 is for the calls to give.
+// Refusals 1 to 7, the least number first. Nothing is written before they are excluded. The calls themselves give refusal 8.
 ghost use Rattle.std.specs.Prelude.{◌≡◌, ◌+◌, ◌*◌, ◌/◌, ◌^◌, ◌<◌, ◌≤◌, ◌||◌, length, nat_lt};
 ghost use Rattle.roles_spec.specs.Refusals.{bad_depth, bad_field, depth_fits, fields_fit, image_refusal, max_rows, max_word_bytes, roles_refusal};
 ghost use Rattle.roles_spec.specs.Table.{row_at, row_bytes, rows};
@@ -9,6 +9,9 @@ use crate::role::ROLE_BYTES;
 use crate::table::{Column, ROW_BYTES, Row};
 
 pub const MAX_ROWS: usize = 16384;
+
+// A table of at most this many rows gets short arrays.
+pub const FEW_ROWS: usize = 256;
 
 pub const MAX_WORD_BYTES: usize = 4194304;
 
@@ -34,7 +37,7 @@ pub enum Refusal {
 }
 
 impl Refusal {
-    // Its number, 1 to 8.
+    // The refusal's number, 1 to 8.
     #[tactic(auto, unfolding(crate::specs::Terms::refused_of))]
     pub fn number(self) -> u8
         ensures { result ≡ (refused_of self).number }
@@ -51,7 +54,7 @@ impl Refusal {
         }
     }
 
-    // Its figure: the row, the number of records needed, or 0.
+    // The refusal's figure: the row, the number of records needed, or 0.
     #[tactic(auto, unfolding(crate::specs::Terms::refused_of))]
     pub fn figure(self) -> u32
         ensures { result ≡ (refused_of self).figure }
@@ -65,7 +68,7 @@ impl Refusal {
     }
 }
 
-// 1 to 7, for a role buffer of so many bytes.
+// Refusals 1 to 7, for a role buffer of `room` bytes.
 #[tactic(auto, unfolding(roles_spec::specs::Refusals::roles_refusal, roles_spec::specs::Refusals::or_else, crate::specs::Terms::given_refusal))]
 pub fn check_roles(table: &[u8], words: &[u8], room: usize) -> Result<(), Refusal>
     ensures { given_refusal result ≡ roles_refusal table.now words.now room }
@@ -77,7 +80,7 @@ pub fn check_roles(table: &[u8], words: &[u8], room: usize) -> Result<(), Refusa
     Ok(())
 }
 
-// 1 to 6.
+// Refusals 1 to 6.
 #[tactic(auto, using(crate::proofs::ImageCheckLaws::image_counts), unfolding(roles_spec::specs::Refusals::image_refusal, roles_spec::specs::Refusals::or_else, roles_spec::specs::Refusals::refuse_if, roles_spec::specs::Refusals::refuse, crate::specs::Terms::given_refusal, crate::specs::Terms::refused_of))]
 pub fn check_image(table: &[u8], words: &[u8]) -> Result<(), Refusal>
     ensures { given_refusal result ≡ image_refusal table.now words.now }
@@ -99,15 +102,15 @@ pub fn check_image(table: &[u8], words: &[u8]) -> Result<(), Refusal>
     Ok(())
 }
 
-// 3, by so many rows or so many bytes of words.
+// Refusal 3: too many rows, or too many bytes of words.
 fn is_too_large(rows: usize, bytes: usize) -> bool
     ensures { result ≡ nat_lt max_rows rows || nat_lt max_word_bytes bytes }
 {
     MAX_ROWS < rows || MAX_WORD_BYTES < bytes
 }
 
-// 4: every depth in its bounds. (That the rows are few stands at three functions here, and no type of a table has it: such a type would be only
-// theirs. `Row` and `find_child` serve tables of any length, and the search has the fact as a ghost field.)
+// Refusal 4: every depth is in its bounds. (`FewRows` is a clause of three functions here: a type of tables with this fact would serve only these.
+// `Row` and `find_child` serve tables of any length, and the search has the fact as a ghost field.)
 #[tactic(auto, using(roles_spec::proofs::RowCheckLaws::depths_end, roles_spec::proofs::RowCheckLaws::depth_refused, roles_spec::proofs::RowCheckLaws::depth_low, roles_spec::proofs::RowCheckLaws::depth_next), unfolding(roles_spec::specs::Refusals::refuse, crate::specs::Terms::refused_of, crate::specs::Terms::given_refusal))]
 fn check_depths(table: &[u8]) -> Result<(), Refusal>
     requires { FewRows table.now }
@@ -136,7 +139,7 @@ fn depth_fits(row: &Row, least: u32, most: u32) -> bool
     least <= depth && depth <= most && depth <= MAX_DEPTH
 }
 
-// 5: constants, upvalues and stack of every row within their limits.
+// Refusal 5: constants, upvalues and stack of every row are within their limits.
 #[tactic(auto, using(roles_spec::proofs::RowCheckLaws::fields_end, roles_spec::proofs::RowCheckLaws::field_refused, roles_spec::proofs::RowCheckLaws::field_next), unfolding(roles_spec::specs::Refusals::refuse, crate::specs::Terms::refused_of, crate::specs::Terms::given_refusal))]
 fn check_fields(table: &[u8]) -> Result<(), Refusal>
     requires { FewRows table.now }

@@ -1,4 +1,4 @@
-// The role of a word, and its record in a role buffer: two i32, owner pc and upvalue index, -1 for one that there is not.
+// The role of a word, and its record in a role buffer: two i32, the owner's pc and the upvalue's index, each -1 where there is none.
 ghost use Rattle.std.specs.Prelude.{◌≡◌, ◌+◌, ◌*◌, ◌≤◌, [], ◌∷◌, length};
 ghost use Rattle.base.specs.Bytes.{overwrite};
 ghost use Rattle.roles_spec.specs.Roles.{index_field, is_executable, owner_field, records_of, role_bytes, role_in};
@@ -10,7 +10,7 @@ use base::bytes::{MINUS_ONE, read_u32, write_record};
 // The length of a record in bytes.
 pub const ROLE_BYTES: usize = 8;
 
-// An executable word; a CLOSURE's binding word, with its pc and the upvalue's index; a SETLIST's extra word, with its pc.
+// An executable word; a CLOSURE's binding word, with the CLOSURE's pc and the upvalue's index; a SETLIST's extra word, with the SETLIST's pc.
 #[derive(Clone, Copy)]
 pub enum Lua51PhysicalRole {
     Instruction,

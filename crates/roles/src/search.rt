@@ -8,7 +8,7 @@ ghost use Rattle.roles.specs.Terms.{RoomForChildren, Tracks, child_from};
 
 use crate::table::{Child, Column, ROW_BYTES, Row, find_child};
 
-// A child in the index: its row and the index of its first binding record. 8 bytes, and no `Child` of 16: the index stands on the stack, and
+// A child in the index: its row and the index of its first binding record. An entry has 8 bytes and a `Child` 16: the index stands on the stack, and
 // has up to 16,384 entries.
 #[derive(Clone, Copy)]
 pub(crate) struct Entry {
@@ -17,9 +17,9 @@ pub(crate) struct Entry {
 }
 
 // The children of the prototype in a row, as far as they were searched for. The first `known` of them stand in the index. The others are the
-// children from row `row` on, and `first` binding records stand between the prototype's own and those of that row. There is no child of number
-// `end` or above. (A slice with `known` beside it, and no Vec: there is no heap.)
-// (That a function leaves `parent` as it was is a clause of each: a ghost field speaks of one value, not of two.)
+// children from row `row` on, and `first` binding records stand between the prototype's own and those of that row. From number `end` on there are no
+// children. (A slice with `known` beside it, and no Vec: there is no heap.)
+// (Each function has a clause that it leaves `parent` as it was: a ghost field speaks of one value, not of two.)
 #[derive(Drop)]
 pub(crate) struct Children<'a> {
     pub parent: Row<'a>,
@@ -56,7 +56,7 @@ impl<'a> Children<'a> {
         ensures child { result ≡ child_from self.old.parent.table.now (suc self.old.parent.number) 0 (child_of_row self.old.parent.table.now self.old.parent.number k) }
         ensures same_parent { self.new.parent ≡ self.old.parent }
     {
-        // A `while`: how many are known, or that there are no more, is said by each search.
+        // A `while`: each search tells how many children are known, or that there are no more.
         while self.known <= k {
             if self.end <= k {
                 return None;
@@ -87,7 +87,7 @@ impl<'a> Children<'a> {
                 };
                 self.known += 1;
                 self.row = number + 1;
-                // Read last: read before the index is written, the field is kept at every row that the search passes.
+                // The field is read last: read before the index is written, it is loaded at every row that the search passes.
                 self.first = first.wrapping_add(Row { table, number }.field(Column::Upvalues));
             }
         }

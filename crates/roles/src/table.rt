@@ -1,4 +1,4 @@
-// The prototype table: rows of five u32, in preorder.
+// The prototype table: rows of u32 fields, in preorder.
 ghost use Rattle.std.specs.Prelude.{◌≡◌, ◌+◌, ◌*◌, ◌<◌, ◌≤◌, length, drop};
 ghost use Rattle.roles_spec.specs.Table.{child_at, field_at, row_count, rows};
 ghost use Rattle.roles.specs.Bounds.{HasRow};
@@ -6,11 +6,11 @@ ghost use Rattle.roles.specs.Terms.{child_from, column_index};
 
 use base::bytes::read_u32;
 
-// The length of a row in bytes.
-pub const ROW_BYTES: usize = 20;
+// The number of a row's fields.
+pub const ROW_FIELDS: usize = 5;
 
-// So many rows are few: what has an entry for each row is short for them.
-pub const FEW_ROWS: usize = 256;
+// The length of a row in bytes: each field is a u32.
+pub const ROW_BYTES: usize = 4 * ROW_FIELDS;
 
 // The fields of a row, in their order.
 #[derive(Clone, Copy, PartialEq, Eq, Debug)]
@@ -37,7 +37,7 @@ pub struct Row<'a> {
 }
 
 impl<'a> Row<'a> {
-    // A field of the row, or 0 where the table has no such row. (In a loop over the rows the compiler drops the test, and that for room in a row too.)
+    // A field of the row, or 0 where the table has no such row. (In a loop over the rows the compiler drops this test, and that for room in the row.)
     #[tactic(auto, using(base::proofs::PartLaws::u32_from_part))]
     pub fn field(&self, column: Column) -> u32
         ensures there { HasRow self.now.table.now self.now.number → result ≡ field_at self.now.table.now self.now.number (column_index column) }
@@ -51,9 +51,9 @@ impl<'a> Row<'a> {
     }
 }
 
-// Child k of a row of this depth, among the rows from `at` on. The search goes from child to child, and the rows left fall with each call. The
-// index of the child's first binding record is counted on from `first`, that of row `at`'s, wherever the caller counts from (modulo 2^32, which
-// an accepted table does not reach). (The whole table and `at`: the row that is answered is counted from the table's first.)
+// Child k of a row of this depth, among the rows from `at` on. The search goes from child to child, and each call has fewer rows left. `first` is the
+// index of row `at`'s first binding record, wherever the caller counts from; the child's is counted on from it (modulo 2^32, which an accepted table
+// does not reach). (The table is passed whole: the row in the answer is counted from the table's first.)
 pub fn find_child(table: &[u8], at: usize, depth: u32, k: u32, first: u32) -> Option<Child>
     ensures { result ≡ child_from table.now at first (child_at depth (drop at (rows table.now)) k) }
 {
@@ -73,7 +73,7 @@ pub fn find_child(table: &[u8], at: usize, depth: u32, k: u32, first: u32) -> Op
     find_child(table, child.row + 1, depth, k - 1, next)
 }
 
-// Child 0 of a row of this depth, among the rows from `at` on: the first that is one deeper. Those that are still deeper are passed.
+// Child 0 of a row of this depth, among the rows from `at` on: the first row that is one deeper. Rows that are deeper still are passed.
 #[tactic(auto, using(crate::proofs::SearchLaws::find_none, crate::proofs::SearchLaws::find_end, crate::proofs::SearchLaws::find_found, crate::proofs::SearchLaws::find_deeper))]
 fn next_child(table: &[u8], at: usize, depth: u32, first: u32) -> Option<Child>
     ensures { result ≡ child_from table.now at first (child_at depth (drop at (rows table.now)) 0) }

@@ -14,7 +14,7 @@ use Rattle.roles_spec.specs.Roles.{word_at, executable_at, binding_count, existi
 use Rattle.roles_spec.specs.Bindings.{Binding, Write, binding_of, write_of, writes_at, writes, set_binding}
 use Rattle.base.proofs.ListLaws.{up_from_append, flat_map_append}
 use Rattle.base.proofs.AllLaws.{all_flat_map, all_map, all_of, all_up_to, flat_map_none, all_up_from}
-use Rattle.base.proofs.TestLaws.{by_cond}
+use Rattle.base.proofs.BoolLaws.{by_cond}
 use Rattle.roles_spec.proofs.RoleLaws.{companion_unexecutable}
 
 -- ---- a write changes no length

@@ -1,4 +1,4 @@
--- The children of a row, one later row after the other, and where one that is found stands. Assumes nothing.
+-- The children of a row, one later row after the other, and where a child that is found stands. Assumes nothing.
 use Prim.Native.Nat.{ℕ, zero, suc, ◌+◌, ◌/◌, ◌≤◌, ◌<◌}
 use native.Mathlib.Nat.{not-suc-le-zero, le_of_suc-le-suc, zero-add, suc-add}
 use native.Mathlib.Omega.{arith}

@@ -13,7 +13,7 @@ pub record Owns (p : Proto) (o pc : ℕ) : Type 0 where
   pub after : o ≤ pc
   pub within : pc ≤ o + owned p o
 
--- there is such an executable word
+-- the word at pc has such an owner
 record Owner (p : Proto) (pc : ℕ) : Type 0 where
   owner_pc : ℕ
   owns : Owns p owner_pc pc
@@ -34,14 +34,14 @@ has_owner : (p : Proto) (pc : ℕ) → pc < length p.code → Owner p pc
 has_owner p zero h = itself p 0 (executable p 0 h (first_executable p))
 has_owner p (suc pc) h = next_owner p pc h (has_owner p pc (omega arith))
 
--- the roles that a word at o claims say so
+-- the roles that a word at o claims name o as the owner
 abbrev Of : ℕ → ℕ → Role → Type 0
 Of o pc r = last_owner pc r ≡ o
 
-bindings_of_lem : (o pc i n : ℕ) → All (Of o pc) (map (ClosureBinding o) (up_from i n))
+bindings_owned : (o pc i n : ℕ) → All (Of o pc) (map (ClosureBinding o) (up_from i n))
 unfolding last_owner
-bindings_of_lem o pc i zero = all_nil
-bindings_of_lem o pc i (suc n) = all_cons refl (bindings_of_lem o pc (suc i) n)
+bindings_owned o pc i zero = all_nil
+bindings_owned o pc i (suc n) = all_cons refl (bindings_owned o pc (suc i) n)
 
 extra_of : (b : Bool) (o pc : ℕ) → All (Of o pc) (only b (SetlistExtra o))
 unfolding only last_owner
@@ -50,9 +50,9 @@ extra_of false o pc = all_nil
 
 claims_of : (p : Proto) (o pc w : ℕ) → All (Of o pc) (claims p o w)
 unfolding claims
-claims_of p o pc w = all_append (bindings_of_lem o pc 0 (binding_count p w)) (extra_of (has_extra w) o pc)
+claims_of p o pc w = all_append (bindings_owned o pc 0 (binding_count p w)) (extra_of (has_extra w) o pc)
 
--- so that the owner is the one that the word's role names
+-- so the owner of a word is the one that its role names
 pub owner_is : (p : Proto) (o pc : ℕ) → pc < length p.code → Owns p o pc → last_owner pc (role_at p pc) ≡ o
 unfolding last_owner companions existing
 owner_is p o pc h v = go (eqb o pc) refl

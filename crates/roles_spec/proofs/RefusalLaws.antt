@@ -10,11 +10,11 @@ use lib.ListN.{length}
 use borrow.Author.Tests.{eqb-false, ltb-false, not-false}
 use Rattle.base.specs.Lists.{All, all_nil, all_cons}
 use Rattle.roles_spec.specs.Table.{Row, row_bytes, rows}
-use Rattle.roles_spec.specs.Refusals.{Refused, refuse, refuse_if, or_else, depth_fits, bad_depth, fields_fit, bad_field, word_total, image_refusal, roles_refusal}
+use Rattle.roles_spec.specs.Refusals.{Refused, refuse, refuse_if, or_else, depth_fits, bad_depth, fields_fit, bad_field, word_total, image_refusal, roles_refusal, max_constants, max_depth, max_rows, max_upvalues, max_word_bytes, max_stack}
 use Rattle.roles_spec.specs.Roles.{role_bytes}
-use Rattle.base.proofs.TestLaws.{t_and, or_false}
+use Rattle.base.proofs.BoolLaws.{t_and, or_false}
 
--- none of two, and none of one
+-- where neither of two refusals applies, and where one does not
 pub or_else_none : (a b : Option Refused) → or_else a b ≡ none → (a ≡ none) × (b ≡ none)
 unfolding or_else
 or_else_none none b e = (refl, e)
@@ -37,29 +37,29 @@ three a b c t = let ab = t_and (a && b) c t in let p = t_and a b ab.0 in (p.0, p
 pub record DepthKept (least most : ℕ) (r : Row) (rs : List Row) : Type 0 where
   pub low : least ≤ r.depth
   pub high : r.depth ≤ most
-  pub limit : r.depth ≤ 199
+  pub limit : r.depth ≤ max_depth
   pub later : bad_depth 1 (suc r.depth) rs ≡ none
 
 pub depth_kept : (least most : ℕ) (r : Row) (rs : List Row) → bad_depth least most (r ∷ rs) ≡ none → DepthKept least most r rs
 unfolding bad_depth depth_fits
 depth_kept least most r rs e =
     let n = or_else_none _ (bad_depth 1 (suc r.depth) rs) e in
-    let t = three (leb least r.depth) (leb r.depth most) (leb r.depth 199) (refuse_unless (depth_fits least most r) 4 r.row n.0) in
+    let t = three (leb least r.depth) (leb r.depth most) (leb r.depth max_depth) (refuse_unless (depth_fits least most r) 4 r.row n.0) in
     record { low = leb→le _ _ t.0; high = leb→le _ _ t.1; limit = leb→le _ _ t.2; later = n.1 }
 
 -- ---- 5: every row's fields
 
 pub record FieldsKept (r : Row) : Type 0 where
-  pub constants : r.constants ≤ 2147483647
-  pub upvalues : r.upvalues ≤ 255
-  pub stack : r.stack ≤ 255
+  pub constants : r.constants ≤ max_constants
+  pub upvalues : r.upvalues ≤ max_upvalues
+  pub stack : r.stack ≤ max_stack
 
 pub fields_kept : (rs : List Row) → bad_field rs ≡ none → All FieldsKept rs
 unfolding bad_field fields_fit
 fields_kept [] e = all_nil
 fields_kept (r ∷ rs) e =
     let n = or_else_none _ (bad_field rs) e in
-    let t = three (leb r.constants 2147483647) (leb r.upvalues 255) (leb r.stack 255) (refuse_unless (fields_fit r) 5 r.row n.0) in
+    let t = three (leb r.constants max_constants) (leb r.upvalues max_upvalues) (leb r.stack max_stack) (refuse_unless (fields_fit r) 5 r.row n.0) in
     all_cons (record { constants = leb→le _ _ t.0; upvalues = leb→le _ _ t.1; stack = leb→le _ _ t.2 }) (fields_kept rs n.1)
 
 -- ---- 1 to 6
@@ -67,8 +67,8 @@ fields_kept (r ∷ rs) e =
 pub record ImageKept (table words : List ℕ) : Type 0 where
   pub some_row : 0 < length table
   pub whole_rows : length table % row_bytes ≡ 0
-  pub row_limit : length (rows table) ≤ 16384
-  pub word_limit : length words ≤ 4194304
+  pub row_limit : length (rows table) ≤ max_rows
+  pub word_limit : length words ≤ max_word_bytes
   pub depths : bad_depth 0 0 (rows table) ≡ none
   pub fields : All FieldsKept (rows table)
   pub word_count : length words ≡ 4 * word_total (rows table)
@@ -82,7 +82,7 @@ image_kept table words e =
     let n3 = or_else_none _ _ n2.1 in
     let n4 = or_else_none _ _ n3.1 in
     let n5 = or_else_none _ _ n4.1 in
-    let full = or_false (ltb 16384 (length rs)) (ltb 4194304 (length words)) (refuse_if_none _ 3 0 n3.0) in
+    let full = or_false (ltb max_rows (length rs)) (ltb max_word_bytes (length words)) (refuse_if_none _ 3 0 n3.0) in
     let there : length table ≡ 0 → ⊥ = eqb-false (length table) 0 (refuse_if_none _ 1 0 n1.0) in
     record {
       some_row = omega arith;

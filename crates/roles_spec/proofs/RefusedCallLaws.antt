@@ -56,7 +56,7 @@ roles_before_8 table words role_length =
     (before_8_else _ _ (before_8_field (rows table)) (before_8_if _ 6 0 (lit< tt)))))))
     (before_8_if _ 7 0 (lit< tt))
 
--- a call that 8 refused met no refusal before it, and one that another refused leaves the buffer that these guard
+-- where a call is refused by 8, no refusal before it applies; where it is refused by another, it leaves the buffer that these guard
 refused_before : {A : Type 0} (o : Option Refused) (records size room : ℕ) (a : A) (r : Refused) (old new : List ℕ) → Before8 o
     → answer (or_else o (too_short records size room)) a ≡ refused r → (r.number ≡ 8 → o ≡ none) × (r.number ≢ 8 → filled o old new ≡ old)
 unfolding or_else too_short refuse_if refuse answer filled

@@ -12,7 +12,7 @@ use Rattle.roles_spec.specs.Table.{Row, rows, Proto, proto_of, protos_of, protos
 use Rattle.roles_spec.specs.Roles.{Role, Instruction, ClosureBinding, SetlistExtra, binding_count, has_extra, claims, roles_from, roles, role_at, role_fields, records_of}
 use Rattle.roles_spec.specs.Refusals.{word_total}
 use Rattle.opcodes.specs.Words.{is, field_bx, CLOSURE}
-use Rattle.base.proofs.TestLaws.{by_cond}
+use Rattle.base.proofs.BoolLaws.{by_cond}
 use Rattle.base.proofs.AllLaws.{all_get_d, all_append, all_map, all_flat_map, all_imp}
 use lib.Seq.{length-take-le, take_all, take-length}
 use Rattle.base.proofs.ListLaws.{get_d_flat_map, flat_map_index, length_flat_map}
@@ -33,25 +33,25 @@ pub length_roles : (p : Proto) → length (roles p) ≡ length p.code
 unfolding roles
 length_roles p = length_roles_from p 0 [] p.code
 
--- the words of the prototypes before
+-- the number of words of the prototypes before prototype k
 unfoldable pub words_before : List Proto → ℕ → ℕ
 words_before ps k = length (flat_map roles (take k ps))
 
--- are those that the rows state, where there are enough
-pub words_before_lem : (rs : List Row) (words : List ℕ) (k : ℕ) → word_total rs ≤ length words → words_before (protos_of rs words) k ≡ word_total (take k rs)
+-- these are as many as the rows state, where there are enough words
+pub words_before_total : (rs : List Row) (words : List ℕ) (k : ℕ) → word_total rs ≤ length words → words_before (protos_of rs words) k ≡ word_total (take k rs)
 unfolding words_before word_total protos_of proto_of flat_map
-words_before_lem rs words zero h = refl
-words_before_lem [] words (suc k) h = refl
-words_before_lem (r ∷ rs) words (suc k) h =
+words_before_total rs words zero h = refl
+words_before_total [] words (suc k) h = refl
+words_before_total (r ∷ rs) words (suc k) h =
     length-append (roles (proto_of r rs words)) _
     ∙ ap₂ (λ (a b : ℕ). a + b) (length_roles (proto_of r rs words) ∙ length-take r.words words ∙ omega arith)
-    (words_before_lem rs (drop r.words words) k (omega (arith, length-drop r.words words)))
+    (words_before_total rs (drop r.words words) k (omega (arith, length-drop r.words words)))
 
 -- the role of the word at pc of prototype k, counted over all words
-pub role_at_lem : (ps : List Proto) (k pc : ℕ) (p : Proto) → k < length ps → pc < length (get_or ps k p).code
+pub role_at_index : (ps : List Proto) (k pc : ℕ) (p : Proto) → k < length ps → pc < length (get_or ps k p).code
     → get_or (flat_map roles ps) (words_before ps k + pc) Instruction ≡ role_at (get_or ps k p) pc
 unfolding words_before role_at
-role_at_lem ps k pc p h l = get_d_flat_map roles ps k pc p Instruction h (omega (arith, length_roles (get_or ps k p)))
+role_at_index ps k pc p h l = get_d_flat_map roles ps k pc p Instruction h (omega (arith, length_roles (get_or ps k p)))
 
 index_below : (ps : List Proto) (k pc : ℕ) (p : Proto) → k < length ps → pc < length (get_or ps k p).code → words_before ps k + pc < length (flat_map roles ps)
 unfolding words_before
@@ -158,7 +158,7 @@ module _ (table words : List ℕ) (kept : ImageKept table words) where
   length_all_roles =
       let ps = protos_of (rows table) (u32s words) in
       ap (λ (l : List Proto). length (flat_map roles l)) (sym (take_all (length (rows table)) ps (omega (arith, length_protos_of (rows table) (u32s words)))))
-      ∙ words_before_lem (rows table) (u32s words) (length (rows table)) enough
+      ∙ words_before_total (rows table) (u32s words) (length (rows table)) enough
       ∙ ap word_total (take-length (rows table))
 
   -- the word at pc of prototype i: both fields of its record, read from a buffer that the roles were written to
@@ -170,12 +170,12 @@ module _ (table words : List ℕ) (kept : ImageKept table words) where
       let ps = protos_of (rows table) (u32s words) in
       let k = words_before ps i + pc in
       let there : i < length ps = omega (arith, length_protos_of (rows table) (u32s words)) in
-      let first : word_total (take i (rows table)) ≡ words_before ps i = sym (words_before_lem (rows table) (u32s words) i enough) in
+      let first : word_total (take i (rows table)) ≡ words_before ps i = sym (words_before_total (rows table) (u32s words) i enough) in
       ap (λ (n : ℕ). u32_from (overwrite old 0 (records_of (flat_map roles ps))) (8 * (n + pc) + 4 * j)) first
       ∙ role_field ps old k j (records_small ps limited) (index_below ps i pc p there l) m (omega (arith, length_all_roles))
-      ∙ ap (λ (r : Role). i32_bits (get_or (role_fields r) j (pos 0))) (role_at_lem ps i pc p there l)
+      ∙ ap (λ (r : Role). i32_bits (get_or (role_fields r) j (pos 0))) (role_at_index ps i pc p there l)
 
   -- the last word of prototype i is one of them
   pub last_below : (i : ℕ) (p : Proto) → i < length (protos table words) → (pc : ℕ) → pc < length (get_or (protos table words) i p).code → word_total (take i (rows table)) + pc < word_total (rows table)
   unfolding protos
-  last_below i p there pc l = omega (arith, words_before_lem (rows table) (u32s words) i enough, index_below (protos_of (rows table) (u32s words)) i pc p there l, length_all_roles)
+  last_below i p there pc l = omega (arith, words_before_total (rows table) (u32s words) i enough, index_below (protos_of (rows table) (u32s words)) i pc p there l, length_all_roles)

@@ -14,7 +14,7 @@ use Rattle.opcodes.specs.Words.{is, CLOSURE, SETLIST}
 use Rattle.roles_spec.specs.Table.{Proto}
 use Rattle.roles_spec.specs.Roles.{Role, Instruction, ClosureBinding, SetlistExtra, is_executable, executable_at, Executable, binding_count, has_extra, claims, roles_from, roles, role_at, word_at, owned, existing, companions}
 use Rattle.base.proofs.AllLaws.{all_append, all_at}
-use Rattle.base.proofs.TestLaws.{t_and, t_true, t_false, and_t, by_cond, disjoint}
+use Rattle.base.proofs.BoolLaws.{t_and, t_true, t_false, and_t, by_cond, disjoint}
 use Rattle.opcodes.proofs.OpcodeTestLaws.{is_not}
 
 -- ---- an executable word
@@ -85,10 +85,10 @@ after_owner p pc (r ∷ claimed) (w ∷ ws) zero (all_cons c cs) h e = absurd (s
 after_owner p pc (r ∷ claimed) (w ∷ ws) (suc k) (all_cons c cs) h e =
     rw (add-suc pc k, ← suc-add pc k) (after_owner p (suc pc) claimed ws k cs (le_of_suc-le-suc h) e)
 
--- of a prototype: the roles after an executable word
-pub roles_after_lem : (p : Proto) (pc : ℕ) → Executable p pc → drop (pc + 1) (roles p) ≡ roles_from p (pc + 1) (claims p pc (word_at p pc)) (drop (pc + 1) p.code)
+-- the roles of a prototype's words after an executable word
+pub roles_after_owner : (p : Proto) (pc : ℕ) → Executable p pc → drop (pc + 1) (roles p) ≡ roles_from p (pc + 1) (claims p pc (word_at p pc)) (drop (pc + 1) p.code)
 unfolding roles word_at role_at
-roles_after_lem p pc x =
+roles_after_owner p pc x =
     let e = after_owner p 0 [] p.code pc all_nil (exists p pc x) (executable_role _ (role p pc x)) in
     rw add-one (rw zero-add at e)
 
@@ -102,13 +102,13 @@ pub owned_count : (p : Proto) (pc : ℕ) → Executable p pc → owned p pc ≡ 
 unfolding owned
 owned_count p pc x = rw (t_true (executable_at p pc) x)
 
--- so is the word after an executable one and those that it owns
+-- the word after an executable word and the words that it owns is executable
 pub next_executable : (p : Proto) (pc : ℕ) → Executable p pc → T (is_executable (role_at p (pc + 1 + owned p pc)))
 unfolding role_at
 next_executable p pc x =
     role_executable (
     sym (get_or-drop (pc + 1) (roles p) (owned p pc) Instruction)
-    ∙ ap₂ (λ (l : List Role) (n : ℕ). get_or l n Instruction) (roles_after_lem p pc x) (owned_count p pc x)
+    ∙ ap₂ (λ (l : List Role) (n : ℕ). get_or l n Instruction) (roles_after_owner p pc x) (owned_count p pc x)
     ∙ past_claimed p (pc + 1) (claims p pc (word_at p pc)) (drop (pc + 1) p.code)
     )
 
@@ -117,19 +117,19 @@ pub owns_nothing : (p : Proto) (pc : ℕ) → is (word_at p pc) (CLOSURE ∷ [])
 unfolding owned claims binding_count has_extra only
 owns_nothing p pc c s = by_cond (λ (n : ℕ). n ≡ 0) (executable_at p pc) (length (claims p pc (word_at p pc))) 0 (λ _. simp (c, s)) (λ _. refl)
 
--- so does one of these opcodes
+-- a word whose opcode is in a list without CLOSURE and SETLIST owns none
 pub owns_none : (p : Proto) (pc : ℕ) (ops : List ℕ) → T (disjoint ops (CLOSURE ∷ [])) → T (disjoint ops (SETLIST ∷ [])) → T (is (word_at p pc) ops) → owned p pc ≡ 0
 owns_none p pc ops c s t = owns_nothing p pc (is_not (word_at p pc) ops (CLOSURE ∷ []) c t) (is_not (word_at p pc) ops (SETLIST ∷ []) s t)
 
--- the words after an executable one that it owns, as far as they exist, have the roles that it claims: whether it is truncated or not
+-- the words that an executable word owns, as far as they exist, have the roles that it claims, whether it is truncated or not
 pub owned_role : (p : Proto) (pc j : ℕ) → Executable p pc → j < companions p pc → role_at p (pc + 1 + j) ≡ get_or (claims p pc (word_at p pc)) j Instruction
 unfolding role_at companions existing
 owned_role p pc j x h =
     sym (get_or-drop (pc + 1) (roles p) j Instruction)
-    ∙ ap (λ (l : List Role). get_or l j Instruction) (roles_after_lem p pc x)
+    ∙ ap (λ (l : List Role). get_or l j Instruction) (roles_after_owner p pc x)
     ∙ claimed_role p (pc + 1) (claims p pc (word_at p pc)) (drop (pc + 1) p.code) j (omega (arith, owned_count p pc x)) (omega (arith, length-drop (pc + 1) p.code))
 
--- so that none of them is executable
+-- so none of those words is executable
 pub companion_unexecutable : (p : Proto) (pc j : ℕ) → Executable p pc → j < companions p pc → executable_at p (pc + 1 + j) ≡ false
 unfolding executable_at companions existing
 companion_unexecutable p pc j x h =
@@ -157,7 +157,7 @@ roles_by_children p q e pc (r ∷ claimed) (w ∷ ws) = ap (λ (l : List Role). 
 
 -- ---- claimed words
 
--- as many as exist take their roles, and the word after them is looked at next
+-- the claimed words that exist take their roles, and the word after them is looked at next
 pub past_claims : (p : Proto) (pc : ℕ) (cl : List Role) (ws : List ℕ) → let mine = take (length ws) cl in roles_from p pc cl ws ≡ mine ++ roles_from p (pc + length mine) [] (drop (length mine) ws)
 unfolding roles_from
 past_claims p pc [] ws = rw (take-nil, add-zero)

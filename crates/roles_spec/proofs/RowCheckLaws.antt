@@ -9,8 +9,8 @@ use mathlib.Core.Option.{none}
 use lib.Dec.{leb, leb→le, T}
 use lib.ListN.{length, drop, drop_of_length-le}
 use Rattle.roles_spec.specs.Table.{row_bytes, field_at, row_at, rows}
-use Rattle.roles_spec.specs.Refusals.{refuse, refuse_if, or_else, depth_fits, bad_depth, fields_fit, bad_field}
-use Rattle.base.proofs.TestLaws.{t_and}
+use Rattle.roles_spec.specs.Refusals.{refuse, refuse_if, or_else, depth_fits, bad_depth, fields_fit, bad_field, max_depth}
+use Rattle.base.proofs.BoolLaws.{t_and}
 use Rattle.roles_spec.proofs.TableLaws.{length_rows, drop_rows}
 
 -- past the last row
@@ -34,9 +34,9 @@ module _ (table : List ℕ) (least most row : ℕ) (v : DepthsLeft table least m
     unfolding bad_depth or_else refuse_if refuse row_at
     depth_refused f = v.left ∙ ap (bad_depth least most) (drop_rows table row there) ∙ rw (← fits, f)
 
-    pub depth_low : r ≡ true → field_at table row 0 ≤ 199
+    pub depth_low : r ≡ true → field_at table row 0 ≤ max_depth
     unfolding depth_fits row_at
-    depth_low f = leb→le (field_at table row 0) 199 (t_and (leb least (field_at table row 0) && leb (field_at table row 0) most) (leb (field_at table row 0) 199) (subst T (sym f ∙ fits) tt)).1
+    depth_low f = leb→le (field_at table row 0) max_depth (t_and (leb least (field_at table row 0) && leb (field_at table row 0) most) (leb (field_at table row 0) max_depth) (subst T (sym f ∙ fits) tt)).1
 
     pub depth_next : r ≡ true → (most' : ℕ) → most' ≡ field_at table row 0 + 1 → DepthsLeft table 1 most' (row + 1)
     unfolding bad_depth or_else refuse_if row_at

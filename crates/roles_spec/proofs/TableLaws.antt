@@ -24,7 +24,7 @@ pub get_d_rows : (table : List ℕ) (k : ℕ) (d : Row) → k < length table / r
 unfolding rows
 get_d_rows table k d h = get_d_tabulate (row_at table) (length table / row_bytes) k d h
 
--- those from row k on, one at a time
+-- the rows from row k on, one at a time
 pub drop_rows : (table : List ℕ) (k : ℕ) → k < length table / row_bytes → drop k (rows table) ≡ row_at table k ∷ drop (suc k) (rows table)
 drop_rows table k h =
     drop-cons (rows table) k (row_at table k) (subst (λ (n : ℕ). k < n) (sym (length_rows table)) h)
@@ -32,13 +32,13 @@ drop_rows table k h =
 
 -- ---- prototypes
 
--- one for each row
+-- there is one prototype for each row
 pub length_protos_of : (rs : List Row) (words : List ℕ) → length (protos_of rs words) ≡ length rs
 unfolding protos_of
 length_protos_of [] words = refl
 length_protos_of (r ∷ rs) words = ap suc (length_protos_of rs (drop r.words words))
 
--- a limit on the upvalues of every row is one on those of every prototype's children
+-- a limit on the upvalues of every row also holds for the children of every prototype
 pub children_most : (limit : ℕ) (rs : List Row) (words : List ℕ) → All (λ (r : Row). r.upvalues ≤ limit) rs → All (λ (p : Proto). All (λ n. n ≤ limit) p.children) (protos_of rs words)
 unfolding protos_of proto_of children below
 children_most limit [] words all_nil = all_nil
@@ -56,7 +56,7 @@ pub below_next : (d : ℕ) (r : Row) (rs : List Row) → d < r.depth → below d
 unfolding below
 below_next d r rs h = rw (lt-ltb d r.depth h)
 
--- those that pass the stricter test come first
+-- the elements that pass the stricter of two tests come first
 module _ {A : Type 0} (f g : A → Bool) (stricter : (x : A) → T (g x) → T (f x)) where
   take_while_split : (xs : List A) → take_while f xs ≡ take_while g xs ++ take_while f (drop (length (take_while g xs)) xs)
   take_while_split [] = refl

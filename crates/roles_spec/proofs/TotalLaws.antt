@@ -22,7 +22,7 @@ module _ (get : Row → ℕ) where
   abbrev sum : List Row → ℕ
   sum rs = total (map get rs)
 
-  -- that of some of the rows is no more than that of all
+  -- the sum over the first rows is no more than over all
   sum_front : (rs : List Row) (k : ℕ) → sum (take k rs) ≤ sum rs
   sum_front rs zero = omega arith
   sum_front [] (suc k) = omega arith
@@ -34,7 +34,7 @@ module _ (get : Row → ℕ) where
   sum_next (r ∷ rs) zero d h = omega arith
   sum_next (r ∷ rs) (suc k) d h = omega (arith, sum_next rs k d (omega arith))
 
-  -- of a table
+  -- one row of a table more
   sum_row : (table : List ℕ) (row : ℕ) → row < length table / row_bytes → sum (take (suc row) (rows table)) ≡ sum (take row (rows table)) + get (row_at table row)
   sum_row table row there =
       sum_next (rows table) row (row_at table row) (omega (arith, length_rows table))

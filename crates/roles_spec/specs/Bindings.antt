@@ -26,7 +26,7 @@ binding_index w = operand B w % 256
 unfoldable pub binding_of : ℕ → ℕ → List Binding
 binding_of pc w = map (λ s. record { instack = s; idx = binding_index w; pc = pos pc }) (only (is w (MOVE ∷ [])) 1 ++ only (is w (GETUPVAL ∷ [])) 0)
 
--- that upvalue `upvalue` of child `child` is bound so
+-- sets upvalue `upvalue` of child `child` to `binding`
 pub record Write : Type 0 where
   pub child : ℕ
   pub upvalue : ℕ
@@ -36,7 +36,7 @@ pub record Write : Type 0 where
 unfoldable pub write_of : ℕ → ℕ → ℕ → ℕ → List Write
 write_of child j pc w = map (λ b. record { child = child; upvalue = j; binding = b }) (binding_of pc w)
 
--- the writes of the word at pc: of "each executable CLOSURE"
+-- the writes of the word at pc: of "each executable CLOSURE", and none of another word
 unfoldable pub writes_at : Proto → ℕ → List Write
 writes_at p pc = flat_map (λ j. write_of (field_bx (word_at p pc)) j (pc + 1 + j) (word_at p (pc + 1 + j))) (up_from 0 (binding_words p pc))
 
@@ -44,9 +44,9 @@ writes_at p pc = flat_map (λ j. write_of (field_bx (word_at p pc)) j (pc + 1 + 
 unfoldable pub writes : Proto → List Write
 writes p = flat_map (writes_at p) (up_from 0 (length p.code))
 
--- ---- the records of all rows: those of a row stand after those of the rows before it
+-- ---- the records of all rows: a row's records stand after the records of the rows before it
 
--- so many records have these rows
+-- the number of records of these rows
 unfoldable pub binding_total : List Row → ℕ
 binding_total rs = total (map (λ (r : Row). r.upvalues) rs)
 
@@ -74,7 +74,7 @@ bindings rs words = bind_rows rs rs words (replicate (binding_total rs) unbound)
 unfoldable pub binding_fields : Binding → List ℤ
 binding_fields b = pos b.instack ∷ pos b.idx ∷ b.pc ∷ []
 
--- the length of such a record in bytes
+-- the length of a binding record in bytes
 abbrev pub binding_bytes : ℕ
 binding_bytes = 12
 

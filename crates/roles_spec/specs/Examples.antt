@@ -1,4 +1,4 @@
--- Small images with their roles, bindings and refusals, in two tables: document 01's P10 and P11 among them. proofs/ExampleLaws proves them.
+-- Small images with their roles, bindings and refusals, in two tables; document 01's P1 to P13 are `validator_spec`'s. proofs/ExampleLaws proves them.
 -- Assumes nothing: these are definitions.
 use Rattle.std.specs.Prelude.{ℕ, ℤ, pos, negsuc}
 use mathlib.Core.List.{List, [], ◌∷◌, ◌++◌, flat_map}
@@ -9,21 +9,22 @@ use Rattle.roles_spec.specs.Roles.{roles, role_fields}
 use Rattle.roles_spec.specs.Bindings.{binding_fields}
 use Rattle.roles_spec.specs.Refusals.{Refused, refuse}
 use Rattle.roles_spec.specs.Calls.{image_bindings, bindings_refusal}
+use Rattle.roles_spec.specs.Samples.{row, parent_rows, parent_words}
 
 -- ---- roles and bindings
 
--- an image by its rows, depth, words, constants, upvalues and stack each, and its words; and its role and binding records
+-- an image: its rows (depth, words, constants, upvalues, stack) and its words; and its role and binding records
 pub record Example : Type 0 where
   pub rows : List ℕ
   pub words : List ℕ
   pub roles : List ℤ
   pub bindings : List ℤ
 
--- what the definitions say of it
+-- the role records of its image, by the definitions
 unfoldable pub roles_of : Example → List ℤ
 roles_of e = flat_map role_fields (flat_map roles (protos (u32_record e.rows) (u32_record e.words)))
 
--- and of its bindings
+-- the binding records of its image, by the definitions
 unfoldable pub bindings_of : Example → List ℤ
 bindings_of e = flat_map binding_fields (image_bindings (u32_record e.rows) (u32_record e.words))
 
@@ -48,27 +49,24 @@ bound instack index pc = pos instack ∷ pos index ∷ pos pc ∷ []
 abbrev start : List ℤ
 start = pos 0 ∷ pos 0 ∷ negsuc 0 ∷ []
 
--- a row of the table
-abbrev row : ℕ → ℕ → ℕ → ℕ → ℕ → List ℕ
-row depth words constants upvalues stack = depth ∷ words ∷ constants ∷ upvalues ∷ stack ∷ []
+-- an example: a prototype of these words, and its child with `upvalues` upvalues, which holds a RETURN
+abbrev parent : List ℕ → ℕ → List ℤ → List ℤ → Example
+parent words upvalues roles bindings = example (parent_rows words upvalues) (parent_words words) (roles ++ instruction) bindings
 
--- so many words, and a child of so many upvalues that holds a RETURN
-abbrev parent : ℕ → List ℕ → ℕ → List ℤ → List ℤ → Example
-parent n words upvalues roles bindings = example (row 0 n 0 0 2 ++ row 1 1 0 upvalues 2) (words ++ 0x0080001e ∷ []) (roles ++ instruction) bindings
-
--- the table
+-- the table of examples
 unfoldable pub examples : List Example
 examples =
-    -- P10: the index is B modulo 256. P11: nothing binds
-    parent 2 (0x00000024 ∷ 0x96000000 ∷ []) 1 (instruction ++ companion 0 0) (bound 1 44 1)
-    ∷ parent 1 (0x00000024 ∷ []) 1 instruction start
+    -- the index is B modulo 256, of a MOVE and of a GETUPVAL; nothing binds
+    parent (0x00000024 ∷ 0xc0000000 ∷ []) 1 (instruction ++ companion 0 0) (bound 1 128 1)
+    ∷ parent (0x00000024 ∷ 0x80800004 ∷ []) 1 (instruction ++ companion 0 0) (bound 0 1 1)
+    ∷ parent (0x00000024 ∷ []) 2 instruction (start ++ start)
     -- truncated, with one of two companions: it is marked, and binds
-    ∷ parent 2 (0x00000024 ∷ 0x02000004 ∷ []) 2 (instruction ++ companion 0 0) (bound 0 4 1 ++ start)
+    ∷ parent (0x00000024 ∷ 0x02000004 ∷ []) 2 (instruction ++ companion 0 0) (bound 0 4 1 ++ start)
     -- a companion, of a CLOSURE or of a SETLIST, that looks like a CLOSURE owns nothing, and leaves its binding
-    ∷ parent 3 (0x00000024 ∷ 0x00000024 ∷ 0x0080001e ∷ []) 1 (instruction ++ companion 0 0 ++ instruction) start
-    ∷ parent 3 (0x00800022 ∷ 0x00000024 ∷ 0x0080001e ∷ []) 1 (instruction ++ extra 0 ++ instruction) start
+    ∷ parent (0x00000024 ∷ 0x00000024 ∷ 0x0080001e ∷ []) 1 (instruction ++ companion 0 0 ++ instruction) start
+    ∷ parent (0x00800022 ∷ 0x00000024 ∷ 0x0080001e ∷ []) 1 (instruction ++ extra 0 ++ instruction) start
     -- a later CLOSURE overwrites, and leaves what it does not bind
-    ∷ parent 6 (0x00000024 ∷ 0x00800000 ∷ 0x01000000 ∷ 0x00000024 ∷ 0x01800004 ∷ 0x0000003f ∷ []) 2
+    ∷ parent (0x00000024 ∷ 0x00800000 ∷ 0x01000000 ∷ 0x00000024 ∷ 0x01800004 ∷ 0x0000003f ∷ []) 2
     (instruction ++ companion 0 0 ++ companion 0 1 ++ instruction ++ companion 3 0 ++ companion 3 1) (bound 0 3 4 ++ bound 1 2 2)
     -- child 1 is the next row one deeper, not the first child's own child; a CLOSURE whose child is missing owns nothing
     ∷ example (row 0 4 0 0 2 ++ row 1 0 0 2 2 ++ row 2 0 0 2 2 ++ row 1 0 0 1 2) (0x00004024 ∷ 0x00800000 ∷ 0x00008024 ∷ 0x0080001e ∷ [])
@@ -87,7 +85,7 @@ pub record RefusalExample : Type 0 where
   pub binding_length : ℕ
   pub expected : Option Refused
 
--- what the definitions say of it
+-- the refusal of its image and buffers, by the definitions
 unfoldable pub refusal_of : RefusalExample → Option Refused
 refusal_of e = bindings_refusal e.table e.words e.role_length e.binding_length
 

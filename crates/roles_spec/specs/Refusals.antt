@@ -10,27 +10,35 @@ pub record Refused : Type 0 where
   pub number : ℕ
   pub figure : ℕ
 
--- that refusal
+-- the refusal with this number and figure
 unfoldable pub refuse : ℕ → ℕ → Option Refused
 refuse number figure = some (record { number = number; figure = figure })
 
--- that refusal where a test passes
+-- the refusal with this number and figure where a test passes, else none
 unfoldable pub refuse_if : Bool → ℕ → ℕ → Option Refused
 refuse_if b number figure = cond b (refuse number figure) none
 
--- the first that applies
+-- the first of two refusals that applies
 unfoldable pub or_else : Option Refused → Option Refused → Option Refused
 or_else (some r) o = some r
 or_else none o = o
 
--- 4, loose part: the first row whose depth breaks its rule. "Row 0 has depth 0; a later row has depth 1 to the previous depth plus 1"; at most 199
-unfoldable pub depth_fits : ℕ → ℕ → Row → Bool
-depth_fits least most r = leb least r.depth && leb r.depth most && leb r.depth 199
+-- the greatest depth of a row
+abbrev pub max_depth : ℕ
+max_depth = 199
 
--- of rows of which the first has depth `least` to `most`
+-- 4, loose part: the first row whose depth breaks its rule. "Row 0 has depth 0; a later row has depth 1 to the previous depth plus 1"
+unfoldable pub depth_fits : ℕ → ℕ → Row → Bool
+depth_fits least most r = leb least r.depth && leb r.depth most && leb r.depth max_depth
+
+-- refusal 4 of rows, where the first must have depth `least` to `most`
 unfoldable pub bad_depth : ℕ → ℕ → List Row → Option Refused
 bad_depth least most [] = none
 bad_depth least most (r ∷ rs) = or_else (refuse_if (not (depth_fits least most r)) 4 r.row) (bad_depth 1 (suc r.depth) rs)
+
+-- "constants 2,147,483,647"
+abbrev pub max_constants : ℕ
+max_constants = 2147483647
 
 -- "upvalues and stack 255"
 abbrev pub max_upvalues : ℕ
@@ -41,9 +49,9 @@ max_stack = 255
 
 -- 5, odd figure: the first row with "constants, upvalues or stack over limit"
 unfoldable pub fields_fit : Row → Bool
-fields_fit r = leb r.constants 2147483647 && leb r.upvalues max_upvalues && leb r.stack max_stack
+fields_fit r = leb r.constants max_constants && leb r.upvalues max_upvalues && leb r.stack max_stack
 
--- of these rows
+-- refusal 5 of rows
 unfoldable pub bad_field : List Row → Option Refused
 bad_field [] = none
 bad_field (r ∷ rs) = or_else (refuse_if (not (fields_fit r)) 5 r.row) (bad_field rs)
@@ -76,6 +84,6 @@ unfoldable pub roles_refusal : List ℕ → List ℕ → ℕ → Option Refused
 roles_refusal table words role_length =
     or_else (image_refusal table words) (refuse_if (ltb role_length (role_bytes * word_total (rows table))) 7 0)
 
--- 8, short tray: so many records of so many bytes do not fit into a buffer of so many bytes
+-- 8, short tray: `records` records of `size` bytes each do not fit into `length` bytes
 unfoldable pub too_short : ℕ → ℕ → ℕ → Option Refused
 too_short records size length = refuse_if (ltb length (records * size)) 8 records

@@ -45,7 +45,7 @@ is_executable Instruction = true
 is_executable (ClosureBinding owner index) = false
 is_executable (SetlistExtra owner) = false
 
--- the word at pc. (A missing one reads 0; what is said of words asks first whether there is one)
+-- the word at pc, or 0 past the end. (Definitions that speak of a word ask first whether there is one)
 unfoldable pub word_at : Proto → ℕ → ℕ
 word_at p pc = get_or p.code pc 0
 
@@ -53,7 +53,7 @@ word_at p pc = get_or p.code pc 0
 unfoldable pub executable_at : Proto → ℕ → Bool
 executable_at p pc = ltb pc (length p.code) && is_executable (role_at p pc)
 
--- as a claim
+-- the same as a proposition: the test passes
 abbrev pub Executable : Proto → ℕ → Type 0
 Executable p pc = T (executable_at p pc)
 
@@ -77,7 +77,7 @@ is_truncated p pc = ltb (companions p pc) (owned p pc)
 unfoldable pub binding_words : Proto → ℕ → ℕ
 binding_words p pc = cond (executable_at p pc) (existing p pc (binding_count p (word_at p pc))) 0
 
--- the owner of a word at pc that has this role, or that pc where it is executable
+-- the owner of the word at pc, by this role of it; pc itself where the word is executable
 unfoldable pub last_owner : ℕ → Role → ℕ
 last_owner pc Instruction = pc
 last_owner pc (ClosureBinding owner index) = owner
@@ -89,7 +89,7 @@ role_fields Instruction = negsuc 0 ∷ negsuc 0 ∷ []
 role_fields (ClosureBinding owner index) = pos owner ∷ pos index ∷ []
 role_fields (SetlistExtra owner) = pos owner ∷ negsuc 0 ∷ []
 
--- the length of such a record in bytes
+-- the length of a role record in bytes
 abbrev pub role_bytes : ℕ
 role_bytes = 8
 
@@ -103,7 +103,7 @@ records_of rs = i32_record (flat_map role_fields rs)
 unfoldable pub owner_field : Role → ℕ
 owner_field r = i32_bits (slice_index_or (role_fields r) 0 (pos 0))
 
--- of the second field
+-- the bits of the second field
 unfoldable pub index_field : Role → ℕ
 index_field r = i32_bits (slice_index_or (role_fields r) 1 (pos 0))
 

@@ -15,13 +15,13 @@ pub record Row : Type 0 where
   pub upvalues : ℕ
   pub stack : ℕ
 
--- five u32 fields, four bytes each
+-- the number of a row's fields
 abbrev pub row_fields : ℕ
 row_fields = 5
 
--- the length of a row in bytes
+-- the length of a row in bytes: each field is a u32, of four bytes
 abbrev pub row_bytes : ℕ
-row_bytes = 20
+row_bytes = 4 * row_fields
 
 -- field k of row i of a table as bytes
 abbrev pub field_at : List ℕ → ℕ → ℕ → ℕ
@@ -72,7 +72,7 @@ pub record Proto : Type 0 where
   pub stack : ℕ
   pub children : List ℕ
 
--- the prototype of a row, from the rows after it and the words from its first on
+-- the prototype of a row; `later` are the rows after it, and `words` begins with its first word
 unfoldable pub proto_of : Row → List Row → List ℕ → Proto
 proto_of r later words =
     record {
@@ -83,7 +83,7 @@ proto_of r later words =
       children = map (λ (c : Row). c.upvalues) (children r.depth later);
     }
 
--- the prototype of row i, from the words from its first on
+-- the prototype of row i; `words` begins with its first word
 unfoldable pub proto_in : List ℕ → ℕ → List ℕ → Proto
 proto_in table i words = proto_of (row_at table i) (drop (suc i) (rows table)) words
 

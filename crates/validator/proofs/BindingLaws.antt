@@ -5,10 +5,10 @@ use mathlib.Core.List.{flat_map, flatten}
 use lib.ListN.{get_or-eq_default}
 use Rattle.base.specs.Bytes.{u32s}
 use Rattle.base.specs.Lists.{elem, only, up_from}
-use Rattle.opcodes.specs.Words.{B, opcode, operand, is, decoded, GETUPVAL, MOVE, CLOSURE, SETLIST}
+use Rattle.opcodes.specs.Words.{B, opcode, operand, is, decoded, GETUPVAL, MOVE, CLOSURE, SETLIST, VARARG, opcode_count}
 use Rattle.opcodes.specs.declared.RawInstruction51.{RawInstruction51}
 use Rattle.base.proofs.ListLaws.{flat_map_append, up_from_append}
-use Rattle.base.proofs.TestLaws.{t_true, or_false, by_cond}
+use Rattle.base.proofs.BoolLaws.{t_true, or_false, by_cond}
 use Rattle.opcodes.proofs.OpcodeTestLaws.{is_not}
 use Rattle.roles_spec.specs.Roles.{Instruction, is_executable, Executable, executable_at, role_at, word_at, roles, owned, existing, companions, binding_count, binding_words, has_extra, role_in}
 use Rattle.roles_spec.specs.Table.{Proto}
@@ -21,9 +21,9 @@ use Rattle.validator.specs.Steps.{State, emitted, emit_all}
 use Rattle.validator.specs.declared.rows.RowLimits.{RowLimits}
 use Rattle.validator.proofs.EmitLaws.{emits_bits, emits_word, emits_then, emits_none}
 use Rattle.validator.proofs.FaultLaws.{claims_count}
-use Rattle.validator.proofs.DescribedLaws.{looked_up, word_read, words_of_lem}
+use Rattle.validator.proofs.DescribedLaws.{looked_up, word_read, code_words}
 
--- ---- one
+-- ---- one companion
 
 -- all that the binding word w at pc adds, with the limits that the code has
 abbrev pub binding_adds : RowLimits → ℕ → ℕ → List Diagnostic
@@ -37,9 +37,9 @@ binding_adds q pc w =
 
 -- by the case of its opcode
 module _ (row : ℕ) (q : RowLimits) (pc w : ℕ) (r : RawInstruction51) (split : r ≡ decoded w) (s t : State) where
-  number_of_lem : opcode w ≡ r.opcode_num
+  split_opcode : opcode w ≡ r.opcode_num
   unfolding decoded
-  number_of_lem = sym (ap (λ (x : RawInstruction51). x.opcode_num) split)
+  split_opcode = sym (ap (λ (x : RawInstruction51). x.opcode_num) split)
 
   -- what it captures
   captured : operand B w ≡ r.b
@@ -48,34 +48,34 @@ module _ (row : ℕ) (q : RowLimits) (pc w : ℕ) (r : RawInstruction51) (split 
 
   pub binds_register : r.opcode_num ≡ MOVE → t ≡ emit_all row (not_below pc 12 q.stack (r.b ∷ [])) s → t ≡ emit_all row (binding_adds q pc w) s
   unfolding is_binding is captured_register captured_upvalue only flatten not_below
-  binds_register e f = rw (number_of_lem ∙ e, captured) (f ∙ ap (λ (ds : List Diagnostic). emit_all row ds s) (sym (append-nil _)))
+  binds_register e f = rw (split_opcode ∙ e, captured) (f ∙ ap (λ (ds : List Diagnostic). emit_all row ds s) (sym (append-nil _)))
 
   pub binds_upvalue : r.opcode_num ≡ GETUPVAL → t ≡ emit_all row (not_below pc 8 q.upvalues (r.b ∷ [])) s → t ≡ emit_all row (binding_adds q pc w) s
   unfolding is_binding is captured_register captured_upvalue only flatten not_below
-  binds_upvalue e f = rw (number_of_lem ∙ e, captured) (f ∙ ap (λ (ds : List Diagnostic). emit_all row ds s) (sym (append-nil _)))
+  binds_upvalue e f = rw (split_opcode ∙ e, captured) (f ∙ ap (λ (ds : List Diagnostic). emit_all row ds s) (sym (append-nil _)))
 
   -- where it captures nothing
   adds_17 : elem r.opcode_num (MOVE ∷ GETUPVAL ∷ []) ≡ false → binding_adds q pc w ≡ diagnostic pc 17 (opcode_value w) ∷ []
   unfolding is_binding is captured_register captured_upvalue only flatten not_below
-  adds_17 other = let o = or_false (eqb r.opcode_num MOVE) (eqb r.opcode_num GETUPVAL || false) other in rw (number_of_lem, o.0, o.1)
+  adds_17 other = let o = or_false (eqb r.opcode_num MOVE) (eqb r.opcode_num GETUPVAL || false) other in rw (split_opcode, o.0, o.1)
 
-  pub binds_nothing : elem r.opcode_num (MOVE ∷ GETUPVAL ∷ []) ≡ false → r.opcode_num < 38 → t ≡ emitted row pc 17 r.opcode_num s → t ≡ emit_all row (binding_adds q pc w) s
+  pub binds_nothing : elem r.opcode_num (MOVE ∷ GETUPVAL ∷ []) ≡ false → r.opcode_num < opcode_count → t ≡ emitted row pc 17 r.opcode_num s → t ≡ emit_all row (binding_adds q pc w) s
   unfolding opcode_value is_unknown
-  binds_nothing other known f = rw (adds_17 other, number_of_lem, le-ltb 37 r.opcode_num (omega arith)) (f ∙ emits_word row pc 17 r.opcode_num s)
+  binds_nothing other known f = rw (adds_17 other, split_opcode, le-ltb VARARG r.opcode_num (omega arith)) (f ∙ emits_word row pc 17 r.opcode_num s)
 
-  pub binds_unknown : 37 < r.opcode_num → t ≡ emitted row pc 17 4294967295 s → t ≡ emit_all row (binding_adds q pc w) s
+  pub binds_unknown : VARARG < r.opcode_num → t ≡ emitted row pc 17 4294967295 s → t ≡ emit_all row (binding_adds q pc w) s
   unfolding opcode_value is_unknown
   binds_unknown above f =
       let other : elem r.opcode_num (MOVE ∷ GETUPVAL ∷ []) ≡ false = rw (ne_eqb r.opcode_num MOVE (λ e. omega arith), ne_eqb r.opcode_num GETUPVAL (λ e. omega arith)) in
-      rw (adds_17 other, number_of_lem, lt-ltb 37 r.opcode_num above) (f ∙ emits_bits row pc 17 0 s)
+      rw (adds_17 other, split_opcode, lt-ltb VARARG r.opcode_num above) (f ∙ emits_bits row pc 17 0 s)
 
 binding_by : (p : Proto) (q : RowLimits) (code records : List ℕ) → Describes p q code records → (pc w : ℕ) → pc < length code / 4 → w ≡ get_or (u32s code) pc 0 → binding_adds q pc w ≡ binding_diagnostics p pc
 unfolding binding_diagnostics
 binding_by p q code records d pc w h e = rw (e ∙ word_read p q code records d pc, d.limits.stack, d.limits.upvalues)
 
--- ---- all of them
+-- ---- all companions
 
--- those of a CLOSURE are all of its companions
+-- the binding words of a CLOSURE are all of its companions
 closure_owns : (p : Proto) (pc : ℕ) → Executable p pc → T (is (word_at p pc) (CLOSURE ∷ [])) → binding_words p pc ≡ companions p pc
 unfolding binding_words companions has_extra only
 closure_owns p pc x t =
@@ -148,7 +148,7 @@ flat_map_next f i n =
 
 -- ---- the pass over them
 
--- at `at`, those before it were looked at
+-- at `at`, the companions before it were looked at
 pub record BindingPass (q : RowLimits) (code records : List ℕ) (pc : ℕ) (s₀ s : State) (at : ℕ) : Type 0 where
   pub later : pc < at
   pub within : (p : Proto) → Describes p q code records → Executable p pc → T (is (word_at p pc) (CLOSURE ∷ [])) → at ≤ pc + 1 + binding_words p pc
@@ -187,7 +187,7 @@ module _ (q : RowLimits) (code records : List ℕ) (pc : ℕ) (s₀ : State) whe
           done = λ p d x c.
               let row = q.row in
               let f : ℕ → List Diagnostic = binding_diagnostics p in
-              let there : at < length code / 4 = omega (arith, companion_exists p at (role_there p d false e), words_of_lem p q code records d) in
+              let there : at < length code / 4 = omega (arith, companion_exists p at (role_there p d false e), code_words p q code records d) in
               let count : at + 1 - (pc + 1) ≡ at - (pc + 1) + 1 = omega (arith, pass.later) in
               let here : pc + 1 + (at - (pc + 1)) ≡ at = omega (arith, pass.later) in
               emits_then row (flat_map f (up_from (pc + 1) (at - (pc + 1)))) (f at) s₀ s t (pass.done p d x c) (added ∙ ap (λ (ds : List Diagnostic). emit_all row ds s) (binding_by p q code records d at w there read))

@@ -10,7 +10,7 @@ use Rattle.roles_spec.specs.Refusals.{Refused, or_else, refuse, refuse_if, too_s
 use Rattle.roles_spec.specs.Roles.{role_at, role_bytes, records_of, roles, role_in}
 use Rattle.roles_spec.specs.Table.{Row, Proto, row_bytes, row_at, rows, protos, protos_of, proto_of, proto_in}
 use Rattle.roles_spec.proofs.RoleLookupLaws.{role_looked_up}
-use Rattle.roles.specs.Terms.{refused_of, answer_of as rolesAnswerOf}
+use Rattle.roles.specs.Terms.{refused_of, answer_of as roles_answer_of}
 use Rattle.roles.specs.declared.refusals.Refusal.{Refusal}
 use Rattle.roles.specs.declared.refusals.Refusal.TheVariants as refusal
 use Rattle.roles_spec.proofs.RefusalLaws.{ImageKept, or_else_none, image_kept, roles_kept}
@@ -21,7 +21,7 @@ use Rattle.roles_spec.proofs.AcceptedCallLaws.{accepted_none}
 use Rattle.validator_spec.specs.Check.{Checked, checked, check_refusal, check_answer, diagnostics_after}
 use Rattle.validator_spec.specs.Image.{Image, diagnostics}
 use Rattle.validator_spec.specs.Statements.{Guarantee}
-use Rattle.validator_spec.specs.Walk.{max_diagnostics, most_diagnostics, diagnostic_fields, diagnostic_bytes}
+use Rattle.validator_spec.specs.Walk.{diagnostic_limit, max_diagnostics, diagnostic_fields, diagnostic_bytes}
 use Rattle.validator_spec.proofs.GuaranteeLaws.{check_guaranteed}
 use Rattle.validator_spec.proofs.LimitLaws.{at_most}
 use Rattle.validator.specs.Terms.{answer_of, checked_of, concluded, image_of}
@@ -82,7 +82,7 @@ module _ (table words records : List ℕ) (f : Filled table words records) where
   start_begins = refl
 
   -- and walks the image
-  pub walked : (warnings errors stop : ℕ) (old : List ℕ) (s : State) → stop ≡ max_diagnostics - (warnings + errors)
+  pub walked : (warnings errors stop : ℕ) (old : List ℕ) (s : State) → stop ≡ diagnostic_limit - (warnings + errors)
       → s ≡ walk_to table words (row_at table 0).depth (step_row table words (record { row = 0; first = 0; stop = stop; count = 0; error = false; limit = false }, old)) → Walked (image_of table words warnings errors) old s
   walked warnings errors stop old s e g =
       let i = image_of table words warnings errors in
@@ -150,16 +150,16 @@ module _ (i : Image) (buffer : List ℕ) where
 
 -- ---- the call
 
-module _ (i : Image) (records : List ℕ) (a : Result ℕ Refusal) (judgedRoles : rolesAnswerOf a ≡ roles_answer i.table i.words (length records)) where
+module _ (i : Image) (records : List ℕ) (a : Result ℕ Refusal) (roles_judged : roles_answer_of a ≡ roles_answer i.table i.words (length records)) where
   -- the roles call was not refused
   pub not_refused : (n : ℕ) → a ≡ Ok n → roles_refusal i.table i.words (length records) ≡ none
-  unfolding rolesAnswerOf roles_answer
-  not_refused n e = accepted_none (roles_refusal i.table i.words (length records)) _ n (sym judgedRoles ∙ ap rolesAnswerOf e)
+  unfolding roles_answer_of roles_answer
+  not_refused n e = accepted_none (roles_refusal i.table i.words (length records)) _ n (sym roles_judged ∙ ap roles_answer_of e)
 
   -- it was
   was_refused : (r : Refusal) → a ≡ Err r → roles_refusal i.table i.words (length records) ≡ some (refused_of r)
-  unfolding rolesAnswerOf roles_answer answer
-  was_refused r e = go (roles_refusal i.table i.words (length records)) (sym judgedRoles ∙ ap rolesAnswerOf e)
+  unfolding roles_answer_of roles_answer answer
+  was_refused r e = go (roles_refusal i.table i.words (length records)) (sym roles_judged ∙ ap roles_answer_of e)
     where
       go : (o : Option Refused) → answer o (word_total (rows i.table)) ≡ refused (refused_of r) → o ≡ some (refused_of r)
       go none q = let z : ◌≡◌ {A = ℕ} 0 1 = cc in absurd (omega arith)
@@ -185,7 +185,7 @@ module _ (i : Image) (records : List ℕ) (a : Result ℕ Refusal) (judgedRoles 
       )
 
   -- the largest number of diagnostics fits
-  pub most_fit : (n len : ℕ) → a ≡ Ok n → most_diagnostics ≤ len / diagnostic_bytes → diagnostic_bytes * length (diagnostics i) ≤ len
+  pub most_fit : (n len : ℕ) → a ≡ Ok n → max_diagnostics ≤ len / diagnostic_bytes → diagnostic_bytes * length (diagnostics i) ≤ len
   unfolding roles_refusal
   most_fit n len e h = omega (arith, at_most i (or_else_none _ _ (not_refused n e)).0)
 

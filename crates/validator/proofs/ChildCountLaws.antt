@@ -3,7 +3,7 @@ use Rattle.std.proofs.Common.{◌≡◌, ℕ, zero, suc, ◌+◌, ◌/◌, ◌<�
 use mathlib.Core.Option.{none}
 use lib.ListN.{length-replicate, get_or-replicate}
 use borrow.Author.Tests.{eqb-false}
-use Rattle.roles_spec.specs.Refusals.{bad_depth}
+use Rattle.roles_spec.specs.Refusals.{bad_depth, max_depth, max_rows}
 use Rattle.roles_spec.specs.Table.{Row, row_bytes, field_at, row_at, rows, below, children}
 use Rattle.base.specs.Lists.{take_while}
 use Rattle.base.proofs.ListLaws.{select_most, take_while_most}
@@ -32,7 +32,7 @@ from_end table depth i h = ap (λ (l : List Row). length (children depth l)) (dr
 -- ---- depths
 
 pub record RowDepth (table : List ℕ) (i : ℕ) : Type 0 where
-  pub limit : (row_at table i).depth ≤ 199
+  pub limit : (row_at table i).depth ≤ max_depth
   pub later : bad_depth 1 (suc (row_at table i).depth) (drop (suc i) (rows table)) ≡ none
 
 -- a row's depth, and that of the next
@@ -84,29 +84,29 @@ module _ (table counts pending : List ℕ) (row : ℕ) (ordered : Ordered table)
   unfolding row_at
   here = sym e
 
-  shallow : d ≤ 199
+  shallow : d ≤ max_depth
   shallow = omega (arith, here, (row_depth table ordered.depths row there).limit)
 
-  -- so many are one deeper
+  -- the number of pending rows that are one deeper
   abbrev found : ℕ
   found = get_or pending (d + 1) 0
 
-  -- so many have its depth, but it
+  -- the number of pending rows of its depth, without the row itself
   abbrev same : ℕ
   same = get_or (set pending (d + 1) 0) d 0
 
   same_as : same ≡ get_or pending d 0
   same_as = get_or-set_other pending (d + 1) d 0 0 (λ f. omega arith)
 
-  -- those of a depth, from the next row on
+  -- the pending rows of a depth, from the next row on
   later : (n : ℕ) → n < 200 → get_or pending (suc n) 0 ≡ from table n (suc row)
   later n l = v.opened n l ∙ ap (from table n) (add-one row)
 
-  few : (n : ℕ) → n ≤ 199 → get_or pending n 0 ≤ 16384
+  few : (n : ℕ) → n ≤ max_depth → get_or pending n 0 ≤ max_rows
   few zero l = omega (arith, v.roots, ordered.few)
   few (suc n) l = omega (arith, later n (omega arith), from_few table n (suc row), ordered.few)
 
-  pub one_fits : same ≤ 16384
+  pub one_fits : same ≤ max_rows
   one_fits = omega (arith, same_as, few d shallow)
 
   pub deep_enough : d + 1 < length pending
@@ -122,7 +122,7 @@ module _ (table counts pending : List ℕ) (row : ℕ) (ordered : Ordered table)
           none_left table n (suc row) next (omega (arith, here, next_depth table row (row_depth table ordered.depths row there) next))
       go false t = from_end table n (suc row) (ltb-false (suc row) (length table / row_bytes) t)
 
-  -- the row takes its children, and is one more of its own depth
+  -- the row takes its children from the pending rows, and becomes one of its own depth
   taken : (n : ℕ) → n < 200 → get_or (set (set pending (d + 1) 0) d (same + 1)) (suc n) 0 ≡ from table n row
   taken n l = go (eqb (suc n) d) (eqb n d) (ltb n d) refl refl refl
     where

@@ -6,11 +6,11 @@ use mathlib.Core.Bool.{and-false}
 use borrow.Author.Tests.{eqb-false}
 use Rattle.base.specs.Bytes.{u32s}
 use Rattle.base.specs.Lists.{elem, every, only, up_from, all_nil, all_cons}
-use Rattle.opcodes.specs.Words.{Field, B, C, decoded, opcode, operand, field_a, field_bx, is, is_constant, constant_index, without_a, with_sbx, LOADK, GETGLOBAL, SETGLOBAL, GETUPVAL, SETUPVAL, EQ, LT, LE, SELF, FORPREP, FORLOOP, TFORLOOP, CALL, TAILCALL, RETURN, VARARG, SETLIST, CLOSURE, LOADBOOL}
+use Rattle.opcodes.specs.Words.{Field, B, C, decoded, opcode, operand, field_a, field_bx, is, is_constant, constant_index, without_a, with_sbx, LOADK, GETGLOBAL, SETGLOBAL, GETUPVAL, SETUPVAL, EQ, LT, LE, SELF, FORPREP, FORLOOP, TFORLOOP, CALL, TAILCALL, RETURN, VARARG, SETLIST, CLOSURE, LOADBOOL, offset_sbx, opcode_count}
 use Rattle.opcodes.specs.declared.RawInstruction51.{RawInstruction51}
 use Rattle.base.proofs.AllLaws.{all_flatten}
 use Rattle.opcodes.proofs.FieldLaws.{operand_below}
-use Rattle.base.proofs.TestLaws.{t_and, t_true, t_false, double_not, by_or}
+use Rattle.base.proofs.BoolLaws.{t_and, t_true, t_false, double_not, by_or}
 use Rattle.roles_spec.specs.Roles.{Role, Executable, executable_at, is_executable, role_at, word_at, binding_words, role_in}
 use Rattle.roles_spec.specs.Table.{Proto}
 use Rattle.roles_spec.proofs.RoleLaws.{executable}
@@ -18,7 +18,7 @@ use Rattle.opcodes.proofs.SplitLaws.{raw_of, split_again}
 use Rattle.validator_spec.specs.Operands.{is_jump, is_skip, is_loadbool_skip, skip_target, constant_bx, upvalue_b, flag_a, flag_limit, register_a, span_ends, register_in, constant_in, child_bx, is_unknown}
 use Rattle.validator_spec.specs.Rules.{Below, Lands, JumpKept, BindingKept, registers_of, constants_of}
 use Rattle.validator_spec.specs.Diagnostics.{diagnostics_at}
-use Rattle.validator_spec.proofs.RuleLaws.{known_none}
+use Rattle.validator_spec.proofs.RuleDiagnosticLaws.{known_none}
 use Rattle.validator.specs.Clean.{FlowKept, OperandsBelow, limits_of, names_nothing, slot, shapes}
 use Rattle.validator.specs.Terms.{Describes, HasLimits, Stands}
 use Rattle.validator.specs.declared.clean.Flow.{Flow}
@@ -33,14 +33,14 @@ use Rattle.validator.proofs.WordLaws.{target_sum}
 
 -- ---- what an opcode has in the table
 
--- every opcode of a list has this
+-- f gives k at every opcode of a list
 has : (ops : List ℕ) (f : ℕ → ℕ) (k n : ℕ) → T (every (λ m. eqb (f m) k) ops) → T (elem n ops) → f n ≡ k
 has [] f k n a t = absurd t
 has (m ∷ ops) f k n a t =
     let both = t_and (eqb (f m) k) (every (λ i. eqb (f i) k) ops) a in
     by_or (eqb n m) (elem n ops) (λ e. ap f (eqb→eq n m e) ∙ eqb→eq (f m) k both.0) (has ops f k n both.1) t
 
--- every opcode up to the last
+-- a test of every number from i on, at one of them
 up_to : (f : ℕ → Bool) (i k n : ℕ) → T (every f (up_from i k)) → i ≤ n → n < i + k → T (f n)
 up_to f i zero n a l h = absurd (omega arith)
 up_to f i (suc k) n a l h = go (eqb i n) refl (λ g. up_to f (suc i) k n both.1 g (omega arith))
@@ -52,7 +52,7 @@ up_to f i (suc k) n a l h = go (eqb i n) refl (λ g. up_to f (suc i) k n both.1 
     go true e rest = subst (λ (m : ℕ). T (f m)) (eqb-true i n e) both.0
     go false e rest = rest (let other = eqb-false i n e in omega arith)
 
--- an operand that a word names, where it names it
+-- an operand is below a limit, where the word names it
 below_if : (b : Bool) (x limit : ℕ) → (T b → x < limit) → Below limit (only b x)
 unfolding only
 below_if true x limit f = all_cons (f tt) all_nil
@@ -61,7 +61,7 @@ below_if false x limit f = all_nil
 abbrev names : ℕ → Shape
 names n = get_or shapes n names_nothing
 
--- a number for each way
+-- a number for each flow
 way : Flow → ℕ
 way Next = 0
 way Target = 1
@@ -94,12 +94,12 @@ module _ (q : RowLimits) (w : ℕ) where
     unfolding flag_a is shapes limits_of
     flag = below_if _ _ _ (λ t. at _ _ 8 h (has (EQ ∷ LT ∷ LE ∷ []) (λ n. slot (names n).a) 8 (opcode w) tt t))
 
-    register : opcode w < 38 → Below q.stack (register_a w)
+    register : opcode w < opcode_count → Below q.stack (register_a w)
     unfolding register_a is shapes limits_of
     register known =
         below_if _ _ _ (λ t.
         let rest = t_false (elem (opcode w) without_a) (t_and (not (is_unknown w)) (not (elem (opcode w) without_a)) t).1 in
-        let two = up_to (λ n. elem n without_a || eqb (slot (names n).a) 2) 0 38 (opcode w) tt (omega arith) known in
+        let two = up_to (λ n. elem n without_a || eqb (slot (names n).a) 2) 0 opcode_count (opcode w) tt (omega arith) known in
         at _ _ 2 h (eqb→eq (slot (names (opcode w)).a) 2 (subst (λ (b : Bool). T (b || eqb (slot (names (opcode w)).a) 2)) rest two)))
 
   module _ (h : ltb (field_bx w) (limit (slot (names (opcode w)).bx)) ≡ true) where
@@ -184,7 +184,7 @@ module _ (q : RowLimits) (w : ℕ) where
         all_nil))))))))
 
   -- all of them
-  pub operands : opcode w < 38 → ltb (field_a w) (limit (slot (names (opcode w)).a)) ≡ true → ltb (field_bx w) (limit (slot (names (opcode w)).bx)) ≡ true
+  pub operands : opcode w < opcode_count → ltb (field_a w) (limit (slot (names (opcode w)).a)) ≡ true → ltb (field_bx w) (limit (slot (names (opcode w)).bx)) ≡ true
       → ltb (operand B w % 256) (limit (slot (names (opcode w)).b + operand B w / 256)) ≡ true
       → ltb (operand C w % 256) (limit (slot (names (opcode w)).c + operand C w / 256)) ≡ true
       → leb (field_a w + (names (opcode w)).b_span / 2 + (names (opcode w)).b_span % 2 * operand B w) (q.stack + 1) ≡ true
@@ -207,11 +207,11 @@ module _ (q : RowLimits) (w : ℕ) where
 -- ---- as the code has them
 
 -- the slots are in the list
-bounded : (f : ℕ → ℕ) (k n : ℕ) → T (every (λ m. ltb (f m) k) (up_from 0 38)) → n < 38 → f n < k
-bounded f k n t h = ltb→lt (f n) k (up_to (λ m. ltb (f m) k) 0 38 n t (omega arith) h)
+bounded : (f : ℕ → ℕ) (k n : ℕ) → T (every (λ m. ltb (f m) k) (up_from 0 opcode_count)) → n < opcode_count → f n < k
+bounded f k n t h = ltb→lt (f n) k (up_to (λ m. ltb (f m) k) 0 opcode_count n t (omega arith) h)
 
 module _ (q : RowLimits) (limits : List ℕ) (s : Shape) (w : RawInstruction51)
-    (known : limits ≡ limits_of q) (pre : (w ≡ decoded w.raw) × (w.opcode_num < 38) × (s ≡ names w.opcode_num)) where
+    (known : limits ≡ limits_of q) (pre : (w ≡ decoded w.raw) × (w.opcode_num < opcode_count) × (s ≡ names w.opcode_num)) where
   ten : length limits ≡ 10
   unfolding limits_of
   ten = ap length known
@@ -240,7 +240,7 @@ module _ (q : RowLimits) (limits : List ℕ) (s : Shape) (w : RawInstruction51)
       → leb (w.a + s.b_span / 2 + s.b_span % 2 * w.b) (q.stack + 1) ≡ true → leb (w.a + s.c_span / 2 + s.c_span % 2 * w.c) (q.stack + 1) ≡ true
       → OperandsBelow q w.raw
   operands_of a bx b c sb sc =
-      operands q w.raw (subst (λ (n : ℕ). n < 38) (split_number w pre.0) pre.1) (as_known _ _ (λ s. slot s.a) (split_a w pre.0) a) (as_known _ _ (λ s. slot s.bx) (split_bx w pre.0) bx)
+      operands q w.raw (subst (λ (n : ℕ). n < opcode_count) (split_number w pre.0) pre.1) (as_known _ _ (λ s. slot s.a) (split_a w pre.0) a) (as_known _ _ (λ s. slot s.bx) (split_bx w pre.0) bx)
       (field_of _ _ (λ s. slot s.b) (split_b w pre.0) b) (field_of _ _ (λ s. slot s.c) (split_c w pre.0) c)
       (span_of _ _ (λ s. s.b_span) (split_b w pre.0) sb) (span_of _ _ (λ s. s.c_span) (split_c w pre.0) sc)
     where
@@ -304,16 +304,16 @@ module _ (p : Proto) (q : RowLimits) (roles : List ℕ) (h : Stands p q roles) w
   stands pc b e t =
       subst (λ (r : Role). T (is_executable r)) (h.roles pc) (double_not (is_executable (role_in roles pc)) (subst T (sym t ∙ ap not e) tt))
 
-  pub lands : (sum : ℕ) → 131071 ≤ sum → sum - 131071 < q.words → (b : Bool) → b ≡ not (is_executable (role_in roles (sum - 131071))) → not b ≡ true → Lands p (pos sum -ℤ pos 131071)
-  lands sum l m b e t = rw (le-ltb sum 131071 l) (executable p (sum - 131071) (omega (arith, h.words)) (stands (sum - 131071) b e t))
+  pub lands : (sum : ℕ) → offset_sbx ≤ sum → sum - offset_sbx < q.words → (b : Bool) → b ≡ not (is_executable (role_in roles (sum - offset_sbx))) → not b ≡ true → Lands p (pos sum -ℤ pos offset_sbx)
+  lands sum l m b e t = rw (le-ltb sum offset_sbx l) (executable p (sum - offset_sbx) (omega (arith, h.words)) (stands (sum - offset_sbx) b e t))
 
 -- ---- the word
 
-pub clean : (p : Proto) (q : RowLimits) (pc : ℕ) → HasLimits p q → Executable p pc → opcode (word_at p pc) < 38 → OperandsBelow q (word_at p pc)
+pub clean : (p : Proto) (q : RowLimits) (pc : ℕ) → HasLimits p q → Executable p pc → opcode (word_at p pc) < opcode_count → OperandsBelow q (word_at p pc)
     → FlowKept p (names (opcode (word_at p pc))).flow pc (field_bx (word_at p pc)) → diagnostics_at p pc ≡ []
 unfolding is_unknown
 clean p q pc l x known o k =
-    known_none p pc (subst⁻¹ (λ (b : Bool). T (not b)) (le-ltb 37 (opcode (word_at p pc)) (omega arith)) tt)
+    known_none p pc (subst⁻¹ (λ (b : Bool). T (not b)) (le-ltb VARARG (opcode (word_at p pc)) (omega arith)) tt)
     (record {
       jump = jump p pc k;
       constant = subst⁻¹ (λ (n : ℕ). Below n (constants_of (word_at p pc))) l.constants o.constant;
@@ -331,7 +331,7 @@ module _ (p : Proto) (q : RowLimits) (code roles : List ℕ) (d : Describes p q 
   companion_clean b e f = rw (looked_up p q code roles d pc b false e f, and-false)
 
   -- the word that was read
-  pub word_clean : pc < length code / 4 → (b : Bool) → b ≡ not (is_executable (role_in roles pc)) → b ≡ false → (v : ℕ) (w : RawInstruction51) → v ≡ get_or (u32s code) pc 0 → w ≡ decoded v → w.opcode_num ≤ 37
+  pub word_clean : pc < length code / 4 → (b : Bool) → b ≡ not (is_executable (role_in roles pc)) → b ≡ false → (v : ℕ) (w : RawInstruction51) → v ≡ get_or (u32s code) pc 0 → w ≡ decoded v → w.opcode_num ≤ VARARG
       → OperandsBelow q w.raw → (s : Shape) → s ≡ names w.opcode_num → FlowKept p s.flow pc w.bx → diagnostics_at p pc ≡ []
   word_clean there b e f v w read split known o s as_list k =
       let again = split_again v w split in
@@ -343,7 +343,7 @@ module _ (p : Proto) (q : RowLimits) (code roles : List ℕ) (d : Describes p q 
 
 -- ---- the words one after another
 
--- those from `from` on that stand before pc have none
+-- the words from `from` up to pc have no diagnostics
 pub record CleanPass (q : RowLimits) (code roles : List ℕ) (from pc : ℕ) : Type 0 where
   pub later : from ≤ pc
   pub within : pc ≤ length code / 4

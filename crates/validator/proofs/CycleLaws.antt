@@ -1,4 +1,4 @@
--- The two functions that call each other: a row with the rows below it, and the rows deeper than another, in the code's terms. Assumes nothing.
+-- The two functions that call each other, in the code's terms: a row with the rows below it, and the rows deeper than a given depth. Assumes nothing.
 use Rattle.std.proofs.Common.{◌≡◌, ℕ, ◌+◌, ◌/◌, ◌<◌, ◌≤◌, true, false, List, length, drop, sym, ap, ◌∙◌, subst, ap₂, arith}
 use Rattle.base.specs.Bytes.{u32s}
 use Rattle.roles_spec.specs.Table.{row_bytes, row_at, proto_in}
@@ -7,8 +7,8 @@ use Rattle.validator.specs.Terms.{row_limits}
 use Rattle.validator.specs.Steps.{State, Begins, tested_of, moved_to, own_steps, step_row, walk_to}
 use Rattle.validator.specs.declared.rows.RowLimits.{RowLimits}
 use Rattle.validator.specs.declared.state.WalkState.{WalkState}
-use Rattle.validator.proofs.ReadyLaws.{Ready}
-use Rattle.validator.proofs.RowLaws.{More, steps_row, step_begins, step_going, part_walked, tested_ended, child_rest, child_ended, child_moves, child_begins}
+use Rattle.validator.proofs.NextRowLaws.{Ready}
+use Rattle.validator.proofs.RowStepLaws.{More, steps_row, step_begins, step_going, part_walked, tested_ended, child_rest, child_ended, child_moves, child_begins}
 
 -- ---- a row, and then the rows below it
 
@@ -37,7 +37,7 @@ module _ (table words roles : List ℕ) (w : WalkState) (ready : Ready table wor
 
 -- ---- the rows that are deeper, one after another
 
--- where the walk is, and where its first state leads
+-- from here the walk leads to where it leads from its first state
 pub record ChildPass (table words : List ℕ) (d : ℕ) (s₀ s : State) : Type 0 where
   pub leads : walk_to table words d s ≡ walk_to table words d s₀
   pub begins : Begins table s.0

@@ -14,8 +14,8 @@ not_same false true e = sym e
 not_same false false e = refl
 
 module _ (p : Proto) (q : RowLimits) (code records : List ℕ) (d : Describes p q code records) where
-  pub words_of_lem : length code / 4 ≡ length p.code
-  words_of_lem = sym (ap length d.code ∙ length_u32s code)
+  pub code_words : length code / 4 ≡ length p.code
+  code_words = sym (ap length d.code ∙ length_u32s code)
 
   pub word_read : (pc : ℕ) → get_or (u32s code) pc 0 ≡ word_at p pc
   unfolding word_at

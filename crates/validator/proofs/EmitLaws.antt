@@ -6,31 +6,31 @@ use Rattle.std.specs.Option.{MatchOption}
 use mathlib.Core.List.{flatten, foldl-append}
 use Rattle.base.specs.Bytes.{i32_bits}
 use Rattle.base.specs.Lists.{only}
-use Rattle.base.proofs.TestLaws.{or_false}
+use Rattle.base.proofs.BoolLaws.{or_false}
 use Rattle.validator_spec.specs.Diagnostics.{Diagnostic, diagnostic, not_below, tested_step}
 use Rattle.validator.specs.Terms.{as_list}
 use Rattle.validator.specs.declared.state.WalkState.{WalkState}
 use Rattle.validator.specs.Steps.{State, emitted, emitted_if, emit, emit_all, ended, tested_of, take_step}
 
--- ---- one
+-- ---- one diagnostic
 
 -- a diagnostic of a word, with a value that is not negative
 pub emits_word : (row pc code value : ℕ) (s : State) → emitted row pc code value s ≡ emit_all row (diagnostic pc code (pos value) ∷ []) s
 unfolding emit_all emit i32_bits
 emits_word row pc code value s = refl
 
--- with a negative one
+-- a diagnostic of a word, with a negative value
 pub emits_bits : (row pc code n : ℕ) (s : State) → emitted row pc code (4294967296 - suc n) s ≡ emit_all row (diagnostic pc code (negsuc n) ∷ []) s
 unfolding emit_all emit i32_bits
 emits_bits row pc code n s = refl
 
--- where a test gives it a value
+-- a diagnostic that has a value where a test passes
 pub emits_only : (row : ℕ) (b : Bool) (d : Diagnostic) (o : Option ℕ) (s t : State) → o ≡ then_some b (i32_bits d.value) → t ≡ emitted_if row (i32_bits d.pc) d.code o s → t ≡ emit_all row (only b d) s
 unfolding emit_all emit emitted_if only
 emits_only row true d o s t e f = f ∙ ap (λ (v : Option ℕ). emitted_if row (i32_bits d.pc) d.code v s) e
 emits_only row false d o s t e f = f ∙ ap (λ (v : Option ℕ). emitted_if row (i32_bits d.pc) d.code v s) e
 
--- ---- some
+-- ---- several diagnostics
 
 flatten_append : (xss yss : List (List Diagnostic)) → flatten (xss ++ yss) ≡ flatten xss ++ flatten yss
 unfolding flatten
@@ -92,12 +92,12 @@ pub tests : (w t : WalkState) (b : Bool) → t ≡ tested_of w → t.limit ≡ b
 unfolding tested_of
 tests w t b e l = sym (ap (λ (x : WalkState). x.limit) e) ∙ l
 
--- where it ends the walk, all else stays
+-- where the test ends the walk, all else stays
 pub tested_ended : (w t : WalkState) → t ≡ tested_of w → t.limit ≡ true → t ≡ ended w
 unfolding tested_of
 tested_ended w t e l = e ∙ rw (tests w t true e l)
 
--- and where it does not, the state is as it was
+-- where the test does not end the walk, the state is as it was
 pub tested_going : (w t : WalkState) → t ≡ tested_of w → t.limit ≡ false → t ≡ w
 unfolding tested_of
 tested_going w t e l =

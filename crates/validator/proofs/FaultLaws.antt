@@ -22,13 +22,13 @@ use Rattle.roles_spec.proofs.OwnerLaws.{Owns, owner_is, owner_of}
 use Rattle.opcodes.proofs.SplitLaws.{raw_of, split_again, has_opcode, has_other}
 use Rattle.validator_spec.specs.Diagnostics.{diagnostic, truncation_at}
 use Rattle.validator.specs.Terms.{Describes, fault_diagnostics, row_limits}
-use Rattle.validator.proofs.DescribedLaws.{word_read, words_of_lem}
+use Rattle.validator.proofs.DescribedLaws.{word_read, code_words}
 use Rattle.validator.specs.declared.fault.Lua51RoleFault.TheVariants as fault
 use Rattle.validator.specs.declared.rows.RowLimits.{RowLimits}
 
 -- ---- truncated owners
 
--- lists of which only that of one number has entries
+-- lists for numbers, where only the list for one number has entries
 one_only : {A : Type 0} (f : ℕ → List A) (n o : ℕ) → o < n → ((k : ℕ) → (k ≡ o → ⊥) → f k ≡ []) → flat_map f (up_from 0 n) ≡ f o
 unfolding flat_map
 one_only f n o h none =
@@ -41,7 +41,7 @@ one_only f n o h none =
     ∙ flat_map_append f (up_from 0 o) (up_from (0 + o) (suc m))
     ∙ rw (before, zero-add, after) (append-nil (f o))
 
--- a truncated one owns all words after it
+-- a truncated owner owns all words after it
 truncated_owns : (p : Proto) (pc : ℕ) → is_truncated p pc ≡ true → Owns p pc (length p.code - 1)
 unfolding is_truncated companions existing owned
 truncated_owns p pc t = go (executable_at p pc) refl (ltb-true (companions p pc) (owned p pc) t)
@@ -52,14 +52,14 @@ truncated_owns p pc t = go (executable_at p pc) refl (ltb-true (companions p pc)
         record { executes = x; after = omega (arith, exists p pc x); within = omega (arith, exists p pc x) }
     go false e h = let none : owned p pc ≡ 0 = rw e in absurd (omega arith)
 
--- a prototype of n words, of which there are some
+-- a prototype of n words, where n is not 0
 module _ (p : Proto) (n : ℕ) (words : length p.code ≡ n) (some : 0 < n) where
   -- the owner of the last word
   abbrev last : ℕ
   last = last_owner (n - 1) (role_at p (n - 1))
 
-  last_owner_lem : Owns p last (n - 1)
-  last_owner_lem = owner_of p (n - 1) (omega arith)
+  last_owns : Owns p last (n - 1)
+  last_owns = owner_of p (n - 1) (omega arith)
 
   other : (pc : ℕ) → (pc ≡ last → ⊥) → truncation_at p pc ≡ []
   unfolding truncation_at only
@@ -73,17 +73,17 @@ module _ (p : Proto) (n : ℕ) (words : length p.code ≡ n) (some : 0 < n) wher
 
   -- no other can be truncated
   pub last_truncated : flat_map (truncation_at p) (up_from 0 n) ≡ truncation_at p last
-  last_truncated = one_only (truncation_at p) n last (omega (arith, last_owner_lem.after)) other
+  last_truncated = one_only (truncation_at p) n last (omega (arith, last_owns.after)) other
 
   -- as the code finds it: where it stands, its bits, and how many words it owns
   module _ (o w m : ℕ) (place : o ≡ last) (bits : word_at p o ≡ w) (count : m ≡ length (claims p o w)) where
     pub owner_there : Owns p o (n - 1)
-    owner_there = subst⁻¹ (λ (k : ℕ). Owns p k (n - 1)) place last_owner_lem
+    owner_there = subst⁻¹ (λ (k : ℕ). Owns p k (n - 1)) place last_owns
 
     owner_owns : owned p o ≡ m
     owner_owns = owned_count p o owner_there.executes ∙ ap (λ (x : ℕ). length (claims p o x)) bits ∙ sym count
 
-    -- it is truncated where it owns words past the last
+    -- the owner is truncated where it owns words past the last
     pub truncated_test : is_truncated p o ≡ leb n (o + m)
     unfolding is_truncated companions existing
     truncated_test = go (leb n (o + m)) refl
@@ -176,7 +176,7 @@ module _ (table : List ℕ) (q : RowLimits) (same : q ≡ row_limits table q.row
     module _ (o w m : ℕ) (r : RawInstruction51) (place : o ≡ last_owner (size - 1) (role_in records (size - 1))) (read : w ≡ get_or (u32s code) o 0) (split : r ≡ decoded w)
         (count : (pc : ℕ) (words : List ℕ) → m ≡ length (claims (proto_in table q.row words) pc r.raw)) where
       words_are : length proto.code ≡ size
-      words_are = sym (words_of_lem proto q code records d)
+      words_are = sym (code_words proto q code records d)
 
       place_is : o ≡ last_owner (size - 1) (role_at proto (size - 1))
       place_is = place ∙ ap (last_owner (size - 1)) (d.stands.roles (size - 1))

@@ -9,26 +9,26 @@ use Rattle.base.specs.Lists.{All, all_nil, all_cons, any}
 use Rattle.roles_spec.specs.Table.{Row, row_bytes, row_at, rows, protos_of, protos, proto_in}
 use Rattle.roles_spec.specs.Refusals.{word_total, bad_depth, image_refusal}
 use Rattle.validator_spec.specs.Diagnostics.{Diagnostic, is_error, Step, proto_steps}
-use Rattle.validator_spec.specs.Walk.{RowDiagnostic, in_row, max_diagnostics, Walk, start, count_n, advance, walk_row, walk_from, walk, limit_reached, has_errors, diagnostic_fields, diagnostic_bytes, error_in}
+use Rattle.validator_spec.specs.Walk.{RowDiagnostic, in_row, diagnostic_limit, Walk, start, count_n, advance, walk_row, walk_from, walk, limit_reached, has_errors, diagnostic_fields, diagnostic_bytes, error_in}
 use Rattle.validator_spec.specs.Image.{Image, image_protos, image_walk, diagnostics, verdict}
 use Rattle.validator_spec.specs.Check.{checked}
 use Rattle.validator.specs.Steps.{State, emitted, emit, emit_all, ended, take_step, moved_to, own_steps, onward, step_row, walk_for, walk_to, written, Walked}
 use Rattle.validator.specs.Terms.{concluded}
-use Rattle.base.proofs.TestLaws.{or_false, by_cond}
+use Rattle.base.proofs.BoolLaws.{or_false, by_cond}
 use Rattle.base.proofs.AllLaws.{all_head, all_tail}
 use Rattle.roles_spec.proofs.TableLaws.{length_rows, drop_rows}
 use Rattle.roles_spec.proofs.TotalLaws.{words_next}
 use Rattle.roles_spec.proofs.RefusalLaws.{depth_kept, image_kept}
 use Rattle.validator_spec.proofs.TreeLaws.{advance_ended}
 use Rattle.validator_spec.proofs.LimitLaws.{at_most}
-use Rattle.validator.proofs.RowLaws.{walk_limited}
+use Rattle.validator.proofs.RowStepLaws.{walk_limited}
 use Rattle.validator.proofs.DiagnosticBufferLaws.{written_append, written_fits}
 
--- the state and the buffer, in a row whose words begin at `first`, are those of a walk of the definitions
+-- the state and the buffer match a walk of the definitions, in row `row` whose words begin at `first`
 pub record Matches (incoming row first : ℕ) (old : List ℕ) (v : Walk) (s : State) : Type 0 where
   pub row_is : s.0.row ≡ row
   pub first_is : s.0.first ≡ first
-  pub stop : s.0.stop ≡ max_diagnostics - incoming
+  pub stop : s.0.stop ≡ diagnostic_limit - incoming
   pub count : s.0.count ≡ length v.found
   pub error : s.0.error ≡ any error_in v.found
   pub limit : s.0.limit ≡ v.ended
@@ -48,13 +48,13 @@ any_next f (y ∷ ys) x = go (f y) (any_next f ys x)
     go true e = refl
     go false e = e
 
--- its record
+-- the record of a diagnostic
 record_fields : (row : ℕ) (d : Diagnostic) → u32_record (row ∷ i32_bits d.pc ∷ d.code ∷ i32_bits d.value ∷ []) ≡ i32_record (diagnostic_fields (in_row row d))
 unfolding i32_record diagnostic_fields i32_bits
 record_fields row d = refl
 
 module _ (incoming row first : ℕ) (old : List ℕ) where
-  -- one of the row, and some
+  -- one diagnostic of the row, and several
   pub emit_matches : (v : Walk) (s : State) (d : Diagnostic) → Matches incoming row first old v s → suc (length v.found) < 2 ^ 32
       → Matches incoming row first old (record { found = v.found ++ (in_row row d ∷ []); ended = v.ended }) (emit row s d)
   unfolding emit emitted written
@@ -86,12 +86,12 @@ module _ (incoming row first : ℕ) (old : List ℕ) where
 -- ---- a step
 
 -- the test of N, by the count alone
-stop_test : (incoming n : ℕ) → leb (max_diagnostics - incoming) n ≡ leb max_diagnostics (incoming + n)
-stop_test incoming n = go (leb max_diagnostics (incoming + n)) refl
+stop_test : (incoming n : ℕ) → leb (diagnostic_limit - incoming) n ≡ leb diagnostic_limit (incoming + n)
+stop_test incoming n = go (leb diagnostic_limit (incoming + n)) refl
   where
-    go : (b : Bool) → leb max_diagnostics (incoming + n) ≡ b → leb (max_diagnostics - incoming) n ≡ b
-    go true e = let h = leb-true max_diagnostics (incoming + n) e in le-leb (max_diagnostics - incoming) n (omega arith)
-    go false e = let h = leb-false max_diagnostics (incoming + n) e in lt-leb (max_diagnostics - incoming) n (omega arith)
+    go : (b : Bool) → leb diagnostic_limit (incoming + n) ≡ b → leb (diagnostic_limit - incoming) n ≡ b
+    go true e = let h = leb-true diagnostic_limit (incoming + n) e in le-leb (diagnostic_limit - incoming) n (omega arith)
+    go false e = let h = leb-false diagnostic_limit (incoming + n) e in lt-leb (diagnostic_limit - incoming) n (omega arith)
 
 module _ (incoming row first : ℕ) (old : List ℕ) where
   -- the step either ends the walk in both or adds the same to both
@@ -99,15 +99,15 @@ module _ (incoming row first : ℕ) (old : List ℕ) where
       → Matches incoming row first old (advance incoming row v step) (take_step row s step)
   unfolding advance take_step
   take_step_matches v s step m few =
-      let same : (s.0.limit || step.tested && leb s.0.stop s.0.count) ≡ (v.ended || step.tested && leb max_diagnostics (count_n incoming v)) =
+      let same : (s.0.limit || step.tested && leb s.0.stop s.0.count) ≡ (v.ended || step.tested && leb diagnostic_limit (count_n incoming v)) =
       ap₂ (λ (a b : Bool). a || step.tested && b) m.limit (ap₂ leb m.stop m.count ∙ stop_test incoming (length v.found)) in
       subst⁻¹ (λ (b : Bool). Matches incoming row first old (advance incoming row v step) (cond b (ended s.0, s.1) (emit_all row step.adds s))) same
-      (go (v.ended || step.tested && leb max_diagnostics (count_n incoming v)) refl few)
+      (go (v.ended || step.tested && leb diagnostic_limit (count_n incoming v)) refl few)
     where
       more : Bool → Walk
       more b = record { found = v.found ++ map (in_row row) step.adds; ended = b }
 
-      go : (b : Bool) → (v.ended || step.tested && leb max_diagnostics (count_n incoming v)) ≡ b
+      go : (b : Bool) → (v.ended || step.tested && leb diagnostic_limit (count_n incoming v)) ≡ b
           → length (cond b (record { found = v.found; ended = true }) (more false)).found < 2 ^ 32
           → Matches incoming row first old (cond b (record { found = v.found; ended = true }) (more false)) (cond b (ended s.0, s.1) (emit_all row step.adds s))
       go true e few =
@@ -121,7 +121,7 @@ module _ (incoming row first : ℕ) (old : List ℕ) where
 step_grows : (incoming row : ℕ) (v : Walk) (step : Step) → length v.found ≤ length (advance incoming row v step).found
 unfolding advance
 step_grows incoming row v step =
-    by_cond (λ (u : Walk). length v.found ≤ length u.found) (v.ended || step.tested && leb max_diagnostics (count_n incoming v)) _ _ (λ _. omega arith)
+    by_cond (λ (u : Walk). length v.found ≤ length u.found) (v.ended || step.tested && leb diagnostic_limit (count_n incoming v)) _ _ (λ _. omega arith)
     (λ _. omega (arith, length-append v.found (map (in_row row) step.adds)))
 
 steps_grow : (incoming row : ℕ) (v : Walk) (steps : List Step) → length v.found ≤ length (foldl (advance incoming row) v steps).found
@@ -171,7 +171,7 @@ module _ (i : Image) (old : List ℕ) where
   abbrev first_of : ℕ → ℕ
   first_of k = word_total (take k (rows i.table))
 
-  -- its steps, and those of the rows from it on
+  -- the steps of row k, and those of the rows from it on
   abbrev own : ℕ → List Step
   own k = proto_steps (proto_in i.table k (drop (first_of k) (u32s i.words)))
 
@@ -283,7 +283,7 @@ module _ (i : Image) (old : List ℕ) where
 
 -- the state before row 0, and the buffer
 abbrev pub begun : ℕ → List ℕ → State
-begun incoming old = (record { row = 0; first = 0; stop = max_diagnostics - incoming; count = 0; error = false; limit = false }, old)
+begun incoming old = (record { row = 0; first = 0; stop = diagnostic_limit - incoming; count = 0; error = false; limit = false }, old)
 
 start_arrives : (i : Image) (old : List ℕ) → Arrives i old 0 start (begun (i.warnings + i.errors) old)
 unfolding written word_total image_walk image_protos protos walk

@@ -1,4 +1,4 @@
--- A word that was split and whose opcode is known: its tests and operands, by the arm that the opcode came to. Assumes nothing.
+-- A word that was split and whose opcode is known: its tests and operands, by the arm of the code's `match`. Assumes nothing.
 use Rattle.std.proofs.Common.{◌≡◌, ℕ, ◌+◌, ◌-◌, ◌<◌, Bool, true, false, not, ◌&&◌, ◌||◌, T, ltb, ◌⊎◌, List, [], ◌∷◌, ◌++◌, sym, refl, ap, ◌∙◌, subst, ap₂, ⊎_elim, append-nil, arith, le-ltb}
 use mathlib.Core.List.{flatten}
 use Rattle.std.specs.Bool.{then_some}
@@ -10,26 +10,27 @@ use Rattle.opcodes.specs.declared.OpcodeField.TheVariants.{Known}
 use Rattle.opcodes.specs.declared.RawInstruction51.{RawInstruction51}
 use Rattle.opcodes.proofs.FieldLaws.{field_below}
 use Rattle.opcodes.proofs.OpcodeLaws.{known_below, known_number}
-use Rattle.base.proofs.TestLaws.{subset}
+use Rattle.base.proofs.BoolLaws.{subset}
 use Rattle.opcodes.proofs.OpcodeTestLaws.{is_among}
 use Rattle.validator_spec.specs.Operands.{is_unknown, is_skip, is_loadbool_skip, span_ends, register_a, register_in, constant_in, child_bx}
 use Rattle.validator.specs.Terms.{Decodes, as_list}
 use Rattle.opcodes.specs.declared.Field.{Field as FieldCode}
 use Rattle.opcodes.specs.declared.Field.TheVariants as field
+use Rattle.validator.specs.Clean.{no_limit}
 
--- what a test lets it name
+-- an operand that a word names where a test passes
 pub named_if : (b : Bool) (v : ℕ) → as_list (then_some b v) ≡ only b v
 unfolding only
 named_if true v = refl
 named_if false v = refl
 
--- the opcodes that always may skip
+-- the opcodes of words that always may skip
 abbrev pub skips : List ℕ
 skips = EQ ∷ LT ∷ LE ∷ TEST ∷ TESTSET ∷ TFORLOOP ∷ []
 
 -- ---- the opcode and the fields
 
--- of a word that was split
+-- the fields of a word that was split
 module _ (w : RawInstruction51) (split : w ≡ decoded w.raw) where
   pub split_number : w.opcode_num ≡ opcode w.raw
   unfolding decoded
@@ -51,10 +52,10 @@ module _ (w : RawInstruction51) (split : w ≡ decoded w.raw) where
   unfolding decoded
   split_bx = ap (λ (x : RawInstruction51). x.bx) split
 
-  pub bx_below : w.bx < 262144
+  pub bx_below : w.bx < no_limit
   bx_below = omega (arith, split_bx, field_below 14 18 w.raw)
 
--- and whose opcode is known
+-- a word that was split and whose opcode is known
 
 module _ (op : Opcode51) (w : RawInstruction51) (d : Decodes op w) where
   pub opcode_known : opcode_of (opcode w.raw) ≡ Known op
@@ -66,7 +67,7 @@ module _ (op : Opcode51) (w : RawInstruction51) (d : Decodes op w) where
 
   pub not_unknown : is_unknown w.raw ≡ false
   unfolding is_unknown
-  not_unknown = le-ltb 37 (opcode w.raw) (omega (arith, known_below (opcode w.raw) op opcode_known))
+  not_unknown = le-ltb VARARG (opcode w.raw) (omega (arith, known_below (opcode w.raw) op opcode_known))
 
   -- the opcode is one of a list
   pub listed : (ops : List ℕ) → elem (number_of op) ops ≡ is w.raw ops
@@ -80,7 +81,7 @@ module _ (op : Opcode51) (w : RawInstruction51) (d : Decodes op w) where
   unfolding only
   names ops v u e q = rw (← listed ops, ← e, q)
 
-  -- it is not
+  -- the opcode is not in the list: the word names nothing
   pub names_none : (ops : List ℕ) (u : ℕ) → false ≡ elem (number_of op) ops → as_list None ≡ only (is w.raw ops) u
   unfolding only
   names_none ops u e = rw (← listed ops, ← e)

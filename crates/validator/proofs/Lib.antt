@@ -9,8 +9,8 @@ pub mod FaultLaws
 pub mod WordDiagnosticLaws
 pub mod KnownOperandLaws
 pub mod OwnStepLaws
-pub mod ReadyLaws
-pub mod RowLaws
+pub mod NextRowLaws
+pub mod RowStepLaws
 pub mod ImageWalkLaws
 pub mod WordLaws
 pub mod DiagnosticBufferLaws

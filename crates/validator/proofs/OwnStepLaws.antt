@@ -6,7 +6,7 @@ use Rattle.std.specs.Prelude.{Option}
 use mathlib.Core.List.{flat_map, flatten, foldl, foldl-append}
 use Rattle.base.specs.Bytes.{i32_bits}
 use Rattle.base.specs.Lists.{up_from}
-use Rattle.base.proofs.TestLaws.{t_true}
+use Rattle.base.proofs.BoolLaws.{t_true}
 use Rattle.roles_spec.specs.Roles.{Executable, executable_at, is_executable, word_at, role_in}
 use Rattle.roles_spec.specs.Table.{Proto}
 use Rattle.roles_spec.proofs.RoleLaws.{executable}
@@ -17,8 +17,8 @@ use Rattle.validator.specs.declared.fault.Lua51RoleFault.{Lua51RoleFault}
 use Rattle.validator.specs.declared.rows.RowLimits.{RowLimits}
 use Rattle.validator.specs.declared.state.WalkState.{WalkState}
 use Rattle.validator.proofs.EmitLaws.{emits_none, emits_only, tested_going, step_ends, step_adds}
-use Rattle.validator.proofs.DescribedLaws.{looked_up, words_of_lem}
-use Rattle.validator.proofs.RowLaws.{tested_step_lem, steps_ended}
+use Rattle.validator.proofs.DescribedLaws.{looked_up, code_words}
+use Rattle.validator.proofs.RowStepLaws.{tested_step_taken, steps_ended}
 
 -- ---- the stack and the truncated owner
 
@@ -27,17 +27,17 @@ unfolding stack_diagnostics has_large_stack i32_bits
 stack_warned row p q l o f s t e = rw l.stack (emits_only row (ltb usual_stack q.stack) (record { pc = negsuc 0; code = 3; value = pos q.stack }) o s t f e)
 
 -- the steps of a fault, once the code knows which it is
-pub fault_steps_lem : (row : ℕ) (found told : Option Lua51RoleFault) (s t : State) → found ≡ told → t ≡ foldl (take_step row) s (map (λ d. tested_step (d ∷ [])) (fault_diagnostics told))
+pub fault_steps_taken : (row : ℕ) (found told : Option Lua51RoleFault) (s t : State) → found ≡ told → t ≡ foldl (take_step row) s (map (λ d. tested_step (d ∷ [])) (fault_diagnostics told))
     → t ≡ foldl (take_step row) s (map (λ d. tested_step (d ∷ [])) (fault_diagnostics found))
-fault_steps_lem row found told s t e f = f ∙ ap (λ (x : Option Lua51RoleFault). foldl (take_step row) s (map (λ d. tested_step (d ∷ [])) (fault_diagnostics x))) (sym e)
+fault_steps_taken row found told s t e f = f ∙ ap (λ (x : Option Lua51RoleFault). foldl (take_step row) s (map (λ d. tested_step (d ∷ [])) (fault_diagnostics x))) (sym e)
 
 -- ---- a word
 
 pub executes : (p : Proto) (q : RowLimits) (code records : List ℕ) → Describes p q code records → (pc : ℕ) → pc < length code / 4 → (b : Bool) → b ≡ not (is_executable (role_in records pc)) → b ≡ false → Executable p pc
 executes p q code records d pc h b e f =
-    executable p pc (omega (arith, h, words_of_lem p q code records d)) (subst T (sym (looked_up p q code records d pc b true e f)) tt)
+    executable p pc (omega (arith, h, code_words p q code records d)) (subst T (sym (looked_up p q code records d pc b true e f)) tt)
 
--- an executable word adds its own
+-- an executable word adds its own diagnostics
 pub word_adds : (row pc : ℕ) (p : Proto) (s t : State) → Executable p pc → t ≡ emit_all row (word_diagnostics p pc (word_at p pc)) s → t ≡ emit_all row (diagnostics_at p pc) s
 unfolding diagnostics_at
 word_adds row pc p s t x e = rw (t_true (executable_at p pc) x) e
@@ -48,7 +48,7 @@ word_adds row pc p s t x e = rw (t_true (executable_at p pc) x) e
 abbrev pub word_step : Proto → ℕ → Step
 word_step p pc = tested_step (diagnostics_at p pc)
 
--- at pc, of n words: the steps of the words from there on lead to where all of them lead
+-- at pc, of n words: the steps of the words from pc on lead to where the steps of all words lead
 pub record WordPass (q : RowLimits) (code records : List ℕ) (n : ℕ) (s₀ s : State) (pc : ℕ) : Type 0 where
   pub long : length s.1 ≡ length s₀.1
   pub within : pc ≤ n
@@ -104,17 +104,17 @@ module _ (q : RowLimits) (code records : List ℕ) (n : ℕ) (s₀ : State) wher
         (subst (WordPass q code records n s₀ s) there (pass_over l (to - pc) (omega arith) (λ p d i x y. none p d i x (omega arith))))
 
     -- and the word there is judged
-    pub word_step_lem : (p : Proto) (to : ℕ) (u : State) → t.limit ≡ false → Executable p to → u ≡ emit_all q.row (word_diagnostics p to (word_at p to)) (t, s.1) → u ≡ take_step q.row (t, s.1) (word_step p to)
-    word_step_lem p to u l x f =
+    pub word_step_taken : (p : Proto) (to : ℕ) (u : State) → t.limit ≡ false → Executable p to → u ≡ emit_all q.row (word_diagnostics p to (word_at p to)) (t, s.1) → u ≡ take_step q.row (t, s.1) (word_step p to)
+    word_step_taken p to u l x f =
         step_adds q.row (diagnostics_at p to) (t, s.1) t (e ∙ ap tested_of (sym (tested_going s.0 t e l))) u l (word_adds q.row to p (t, s.1) u x f)
 
--- ---- all of them
+-- ---- all steps of a prototype
 
 -- a diagnostic of a truncated owner, after a test
 abbrev fault_step : Diagnostic → Step
 fault_step d = tested_step (d ∷ [])
 
--- the steps of the words, of the truncated owner, and those that follow these and the first test
+-- the steps of the words; the steps of the truncated owner; the steps after these; the steps after the first test
 abbrev word_steps : Proto → List Step
 word_steps p = map (word_step p) (up_from 0 (length p.code))
 
@@ -132,36 +132,36 @@ module _ (row : ℕ) (p : Proto) (q : RowLimits) (code records : List ℕ) (d : 
   pub faulted : (found : Option Lua51RoleFault) → fault_diagnostics found ≡ flat_map (truncation_at p) (up_from 0 (length code / 4)) → u ≡ foldl (take_step row) s (map fault_step (fault_diagnostics found))
       → u ≡ foldl (take_step row) s (fault_steps p)
   faulted found e f =
-      f ∙ ap (λ (ds : List Diagnostic). foldl (take_step row) s (map fault_step ds)) (e ∙ ap (λ (n : ℕ). flat_map (truncation_at p) (up_from 0 n)) (words_of_lem p q code records d))
+      f ∙ ap (λ (ds : List Diagnostic). foldl (take_step row) s (map fault_step ds)) (e ∙ ap (λ (n : ℕ). flat_map (truncation_at p) (up_from 0 n)) (code_words p q code records d))
 
   pub worded : u ≡ foldl (take_step row) s (map (word_step p) (up_from 0 (length code / 4))) → u ≡ foldl (take_step row) s (word_steps p)
-  worded f = f ∙ ap (λ (n : ℕ). foldl (take_step row) s (map (word_step p) (up_from 0 n))) (words_of_lem p q code records d)
+  worded f = f ∙ ap (λ (n : ℕ). foldl (take_step row) s (map (word_step p) (up_from 0 n))) (code_words p q code records d)
 
 module _ (row : ℕ) (p : Proto) (s : State) (t : WalkState) (e : t ≡ tested_of s.0) where
   begins : ◌≡◌ {A = State} (t, s.1) (take_step row s (tested_step []))
-  begins = ap (λ (w : WalkState). (w, s.1)) e ∙ sym (tested_step_lem row s)
+  begins = ap (λ (w : WalkState). (w, s.1)) e ∙ sym (tested_step_taken row s)
 
   -- from the first test on
-  after_test_lem : foldl (take_step row) s (proto_steps p)
+  steps_after_test : foldl (take_step row) s (proto_steps p)
       ≡ foldl (take_step row) (t, s.1) (after_test p)
   unfolding proto_steps flatten
-  after_test_lem =
+  steps_after_test =
       ap (λ (x : State). foldl (take_step row) x (after_test p)) (sym begins)
 
   -- the walk ends there
   pub own_test : t.limit ≡ true → ◌≡◌ {A = State} (t, s.1) (foldl (take_step row) s (proto_steps p))
-  own_test l = sym (after_test_lem ∙ steps_ended row (t, s.1) (after_test p) l)
+  own_test l = sym (steps_after_test ∙ steps_ended row (t, s.1) (after_test p) l)
 
   module _ (u : State) (f : u ≡ foldl (take_step row) (t, s.1) (fault_steps p)) where
     -- from the truncated owner on
-    after_fault_lem : foldl (take_step row) s (proto_steps p) ≡ foldl (take_step row) u (after_fault p)
-    after_fault_lem =
-        after_test_lem
+    steps_after_fault : foldl (take_step row) s (proto_steps p) ≡ foldl (take_step row) u (after_fault p)
+    steps_after_fault =
+        steps_after_test
         ∙ foldl-append (take_step row) (t, s.1) (fault_steps p) _
         ∙ ap (λ (x : State). foldl (take_step row) x (after_fault p)) (sym f)
 
     pub own_fault : u.0.limit ≡ true → u ≡ foldl (take_step row) s (proto_steps p)
-    own_fault l = sym (after_fault_lem ∙ steps_ended row u (after_fault p) l)
+    own_fault l = sym (steps_after_fault ∙ steps_ended row u (after_fault p) l)
 
     stack_step : (v : State) → u.0.limit ≡ false → v ≡ emit_all row (stack_diagnostics p) u → v ≡ take_step row u (untested_step (stack_diagnostics p))
     unfolding take_step untested_step
@@ -173,4 +173,4 @@ module _ (row : ℕ) (p : Proto) (s : State) (t : WalkState) (e : t ≡ tested_o
         let words = word_steps p in
         h ∙ ap (λ (x : State). foldl (take_step row) x words) (stack_step v l g)
         ∙ ap (foldl (take_step row) (take_step row u (untested_step (stack_diagnostics p)))) (sym (append-nil words))
-        ∙ sym after_fault_lem
+        ∙ sym steps_after_fault

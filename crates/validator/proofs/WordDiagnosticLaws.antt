@@ -2,7 +2,7 @@
 use Rattle.std.proofs.Common.{◌≡◌, ℕ, ◌+◌, Bool, true, false, T, ltb, [], ◌∷◌, sym, ap, ◌∙◌, subst}
 use mathlib.Core.List.{flat_map, flatten}
 use Rattle.base.specs.Lists.{only, up_from}
-use Rattle.opcodes.specs.Words.{opcode, is, decoded, CLOSURE}
+use Rattle.opcodes.specs.Words.{opcode, is, decoded, CLOSURE, VARARG}
 use Rattle.opcodes.specs.declared.Opcode51.{Opcode51}
 use Rattle.opcodes.specs.declared.OpcodeField.TheVariants.{Known, Unknown}
 use Rattle.opcodes.specs.declared.RawInstruction51.{RawInstruction51}
@@ -27,7 +27,7 @@ module _ (row pc : ℕ) (p : Proto) (w : RawInstruction51) (v : ℕ) (split : w 
   pub word_unknown : (m : ℕ) (t : State) → w.opcode ≡ Unknown m → t ≡ emitted row pc 4 w.opcode_num s → t ≡ emit_all row (word_diagnostics p pc (word_at p pc)) s
   unfolding decoded word_diagnostics opcode_diagnostics is_unknown only
   word_unknown m t e f =
-      let unknown : ltb 37 (opcode v) ≡ true = unknown_above (opcode v) m (sym (ap (λ (x : RawInstruction51). x.opcode) split) ∙ e) in
+      let unknown : ltb VARARG (opcode v) ≡ true = unknown_above (opcode v) m (sym (ap (λ (x : RawInstruction51). x.opcode) split) ∙ e) in
       rw (← read, unknown) (f ∙ ap (λ (x : RawInstruction51). emitted row pc 4 x.opcode_num s) split ∙ emits_word row pc 4 (opcode v) s)
 
   module _ (op : Opcode51) (known : w.opcode ≡ Known op) where

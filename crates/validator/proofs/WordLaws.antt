@@ -5,7 +5,7 @@ use Rattle.std.specs.Bool.{then_some}
 use Rattle.std.specs.Prelude.{Option}
 use Rattle.base.specs.Bytes.{i32_bits}
 use Rattle.base.specs.Lists.{elem, only, keep_if, select}
-use Rattle.opcodes.specs.Words.{B, C, field_bx, number_of, mode_of, with_sbx, with_bx}
+use Rattle.opcodes.specs.Words.{B, C, field_bx, number_of, mode_of, with_sbx, with_bx, offset_sbx}
 use Rattle.opcodes.specs.declared.Opcode51.{Opcode51}
 use Rattle.opcodes.specs.declared.OpMode51.{OpMode51}
 use Rattle.opcodes.specs.declared.OpMode51.TheVariants.{IABC, IABx, IAsBx}
@@ -22,7 +22,7 @@ use Rattle.validator.proofs.KnownOperandLaws.{listed}
 
 -- ---- operands
 
--- an operand that was checked, by another name
+-- operands that were checked, given by another list that is equal
 pub checked_as : (row pc code limit : ℕ) (xs ys : List ℕ) (s t : State) → t ≡ emit_all row (not_below pc code limit xs) s → xs ≡ ys → t ≡ emit_all row (not_below pc code limit ys) s
 checked_as row pc code limit xs ys s t e q = e ∙ ap (λ (vs : List ℕ). emit_all row (not_below pc code limit vs) s) q
 
@@ -48,7 +48,7 @@ spans_checked row pc limit w first second s t u q e f =
     emits_then row _ _ s t u e f
     ∙ ap (λ (ds : List Diagnostic). emit_all row ds s) (sym (below_append pc 11 limit (as_list first) (as_list second)) ∙ ap (not_below pc 11 limit) q)
 
--- all of them, with the limits that the code has
+-- all operands, with the limits that the code has
 pub emits_operands : (row : ℕ) (p : Proto) (q : RowLimits) (pc w : ℕ) → HasLimits p q → (s t : State)
     → t
     ≡ emit_all row (flatten (
@@ -70,54 +70,54 @@ emits_operands row p q pc w l s t e = rw (l.constants, l.upvalues, l.stack, l.ch
 
 -- ---- targets
 
--- pc + 1 + Bx, less the offset
-pub target_sum : (pc w : ℕ) → target pc w ≡ pos (pc + 1 + field_bx w) -ℤ pos 131071
+-- the target is pc + 1 + Bx - offset_sbx
+pub target_sum : (pc w : ℕ) → target pc w ≡ pos (pc + 1 + field_bx w) -ℤ pos offset_sbx
 unfolding target
 target_sum pc w = go (field_bx w)
   where
-    low : (n : ℕ) → n < 131071 → (pos (pc + 1) +ℤ negsuc (131071 - suc n)) ≡ pos (pc + 1 + n) -ℤ pos 131071
-    low n h = at (ltb (pc + 1 + n) 131071) refl
+    low : (n : ℕ) → n < offset_sbx → (pos (pc + 1) +ℤ negsuc (offset_sbx - suc n)) ≡ pos (pc + 1 + n) -ℤ pos offset_sbx
+    low n h = at (ltb (pc + 1 + n) offset_sbx) refl
       where
-        at : (b : Bool) → ltb (pc + 1 + n) 131071 ≡ b → (pos (pc + 1) +ℤ negsuc (131071 - suc n)) ≡ pos (pc + 1 + n) -ℤ pos 131071
+        at : (b : Bool) → ltb (pc + 1 + n) offset_sbx ≡ b → (pos (pc + 1) +ℤ negsuc (offset_sbx - suc n)) ≡ pos (pc + 1 + n) -ℤ pos offset_sbx
         at true e =
-            let l : pc + 1 + n < 131071 = ltb-true _ _ e in
-            rw (e, lt-ltb (pc + 1) (suc (131071 - suc n)) (omega arith)) (ap negsuc (omega arith))
+            let l : pc + 1 + n < offset_sbx = ltb-true _ _ e in
+            rw (e, lt-ltb (pc + 1) (suc (offset_sbx - suc n)) (omega arith)) (ap negsuc (omega arith))
         at false e =
-            let l : 131071 ≤ pc + 1 + n = ltb-false _ _ e in
-            rw (e, le-ltb (pc + 1) (suc (131071 - suc n)) (omega arith)) (ap pos (omega arith))
+            let l : offset_sbx ≤ pc + 1 + n = ltb-false _ _ e in
+            rw (e, le-ltb (pc + 1) (suc (offset_sbx - suc n)) (omega arith)) (ap pos (omega arith))
 
-    go : (n : ℕ) → (pos (pc + 1) +ℤ (pos n -ℤ pos 131071)) ≡ pos (pc + 1 + n) -ℤ pos 131071
-    go n = at (ltb n 131071) refl
+    go : (n : ℕ) → (pos (pc + 1) +ℤ (pos n -ℤ pos offset_sbx)) ≡ pos (pc + 1 + n) -ℤ pos offset_sbx
+    go n = at (ltb n offset_sbx) refl
       where
-        at : (b : Bool) → ltb n 131071 ≡ b → (pos (pc + 1) +ℤ (pos n -ℤ pos 131071)) ≡ pos (pc + 1 + n) -ℤ pos 131071
+        at : (b : Bool) → ltb n offset_sbx ≡ b → (pos (pc + 1) +ℤ (pos n -ℤ pos offset_sbx)) ≡ pos (pc + 1 + n) -ℤ pos offset_sbx
         at true e = rw e (low n (ltb-true _ _ e))
         at false e =
-            let l : 131071 ≤ n = ltb-false _ _ e in
-            rw (e, le-ltb (pc + 1 + n) 131071 (omega arith)) (ap pos (omega arith))
+            let l : offset_sbx ≤ n = ltb-false _ _ e in
+            rw (e, le-ltb (pc + 1 + n) offset_sbx (omega arith)) (ap pos (omega arith))
 
 module _ (row pc sum : ℕ) (p : Proto) (q : RowLimits) (roles : List ℕ) (h : Stands p q roles) (s t : State) where
   -- before the first word
-  pub target_before : sum < 131071 → t ≡ emitted row pc 5 (4294967295 - (131071 - 1 - sum)) s → t ≡ emit_all row (target_diagnostics p pc (pos sum -ℤ pos 131071)) s
+  pub target_before : sum < offset_sbx → t ≡ emitted row pc 5 (4294967295 - (offset_sbx - 1 - sum)) s → t ≡ emit_all row (target_diagnostics p pc (pos sum -ℤ pos offset_sbx)) s
   unfolding target_diagnostics
   target_before l e =
-      rw (lt-ltb sum 131071 l)
-      (e ∙ ap (λ (v : ℕ). emitted row pc 5 v s) (omega arith) ∙ emits_bits row pc 5 (131071 - suc sum) s)
+      rw (lt-ltb sum offset_sbx l)
+      (e ∙ ap (λ (v : ℕ). emitted row pc 5 v s) (omega arith) ∙ emits_bits row pc 5 (offset_sbx - suc sum) s)
 
   -- past the last word
-  pub target_past : 131071 ≤ sum → q.words ≤ sum - 131071 → t ≡ emitted row pc 5 (sum - 131071) s → t ≡ emit_all row (target_diagnostics p pc (pos sum -ℤ pos 131071)) s
+  pub target_past : offset_sbx ≤ sum → q.words ≤ sum - offset_sbx → t ≡ emitted row pc 5 (sum - offset_sbx) s → t ≡ emit_all row (target_diagnostics p pc (pos sum -ℤ pos offset_sbx)) s
   unfolding target_diagnostics
   target_past l m e =
-      let past : length p.code ≤ sum - 131071 = omega (arith, h.words) in
-      rw (le-ltb sum 131071 l, le-ltb (sum - 131071) (length p.code) past) (e ∙ emits_word row pc 5 (sum - 131071) s)
+      let past : length p.code ≤ sum - offset_sbx = omega (arith, h.words) in
+      rw (le-ltb sum offset_sbx l, le-ltb (sum - offset_sbx) (length p.code) past) (e ∙ emits_word row pc 5 (sum - offset_sbx) s)
 
   -- at a word
-  pub target_at : 131071 ≤ sum → sum - 131071 < q.words → (b : Bool) → b ≡ not (is_executable (role_in roles (sum - 131071))) → (o : Option ℕ) → o ≡ then_some b (sum - 131071) → t ≡ emitted_if row pc 6 o s
-      → t ≡ emit_all row (target_diagnostics p pc (pos sum -ℤ pos 131071)) s
+  pub target_at : offset_sbx ≤ sum → sum - offset_sbx < q.words → (b : Bool) → b ≡ not (is_executable (role_in roles (sum - offset_sbx))) → (o : Option ℕ) → o ≡ then_some b (sum - offset_sbx) → t ≡ emitted_if row pc 6 o s
+      → t ≡ emit_all row (target_diagnostics p pc (pos sum -ℤ pos offset_sbx)) s
   unfolding target_diagnostics i32_bits
   target_at l m b f o g e =
-      let there : sum - 131071 < length p.code = omega (arith, h.words) in
-      let role : b ≡ not (is_executable (role_at p (sum - 131071))) = f ∙ ap (λ (r : Role). not (is_executable r)) (h.roles (sum - 131071)) in
-      rw (le-ltb sum 131071 l, lt-ltb (sum - 131071) (length p.code) there, ← role) (emits_only row b (diagnostic pc 6 (pos (sum - 131071))) o s t g e)
+      let there : sum - offset_sbx < length p.code = omega (arith, h.words) in
+      let role : b ≡ not (is_executable (role_at p (sum - offset_sbx))) = f ∙ ap (λ (r : Role). not (is_executable r)) (h.roles (sum - offset_sbx)) in
+      rw (le-ltb sum offset_sbx l, lt-ltb (sum - offset_sbx) (length p.code) there, ← role) (emits_only row b (diagnostic pc 6 (pos (sum - offset_sbx))) o s t g e)
 
 -- ---- jumps, by the mode of the opcode
 
@@ -150,7 +150,7 @@ module _ (row pc w : ℕ) (p : Proto) (s : State) where
   no_jump e = rw e (emits_none row s)
 
   -- a word with one
-  pub jump : (sum : ℕ) (t : State) → is_jump w ≡ true → sum ≡ pc + 1 + field_bx w → t ≡ emit_all row (target_diagnostics p pc (pos sum -ℤ pos 131071)) s → t ≡ emit_all row (jump_diagnostics p pc w) s
+  pub jump : (sum : ℕ) (t : State) → is_jump w ≡ true → sum ≡ pc + 1 + field_bx w → t ≡ emit_all row (target_diagnostics p pc (pos sum -ℤ pos offset_sbx)) s → t ≡ emit_all row (jump_diagnostics p pc w) s
   unfolding jump_diagnostics
   jump sum t e q f = rw (e, target_sum pc w, ← q) f
 

@@ -1,5 +1,6 @@
 -- What the fast test of a word knows of its opcode and its prototype: the terms of inner contracts. Assumes nothing: these are definitions.
 use Rattle.std.specs.Prelude.{◌≡◌, ℕ, ◌+◌, T, List, [], ◌∷◌, pos, ◌-ℤ◌}
+use Rattle.opcodes.specs.Words.{offset_sbx}
 use Rattle.roles_spec.specs.Roles.{is_executable, role_at}
 use Rattle.roles_spec.specs.Table.{Proto}
 use Rattle.validator_spec.specs.Operands.{upvalue_b, flag_a, flag_limit, child_bx}
@@ -11,12 +12,16 @@ use Rattle.validator.specs.declared.clean.Limit.TheVariants.{Nothing, NothingK, 
 use Rattle.validator.specs.declared.clean.Shape.{Shape}
 use Rattle.validator.specs.declared.rows.RowLimits.{RowLimits}
 
--- the limits of operands, by their slots: of a field that names nothing, of a register, of an RK operand, of an upvalue (two slots each, the second
--- for values that have the bit of a constant), of a flag, of a child
-unfoldable pub limits_of : RowLimits → List ℕ
-limits_of q = 262144 ∷ 262144 ∷ q.stack ∷ 0 ∷ q.stack ∷ q.constants ∷ q.upvalues ∷ 0 ∷ flag_limit ∷ q.children ∷ []
+-- above every field of a word
+abbrev pub no_limit : ℕ
+no_limit = 262144
 
--- the slot of each in this list
+-- the limits of operands, by their slots: of a field that names nothing, a register, an RK operand, an upvalue (two slots each, the second for values
+-- that have the bit of a constant), a flag, a child
+unfoldable pub limits_of : RowLimits → List ℕ
+limits_of q = no_limit ∷ no_limit ∷ q.stack ∷ 0 ∷ q.stack ∷ q.constants ∷ q.upvalues ∷ 0 ∷ flag_limit ∷ q.children ∷ []
+
+-- the slot of each limit in this list
 abbrev pub slot : Limit → ℕ
 slot Nothing = 0
 slot NothingK = 1
@@ -29,15 +34,15 @@ slot UpvalueK = 7
 slot Flag = 8
 slot Child = 9
 
--- what an opcode names and where its word goes: the limits of A, Bx, B and C, the spans that B and C end, and the way
+-- what an opcode names and where its word goes: the limits of A, Bx, B and C, the spans that B and C end, and the flow
 abbrev pub shape : Limit → Limit → Limit → Limit → ℕ → ℕ → Flow → Shape
 shape a bx b c b_span c_span flow = record { a = a; bx = bx; b = b; c = c; b_span = b_span; c_span = c_span; flow = flow }
 
--- that of an opcode that names nothing
+-- the shape of an opcode that names nothing
 abbrev pub names_nothing : Shape
 names_nothing = shape Nothing Nothing Nothing Nothing 0 0 Next
 
--- that of each opcode, as the code's table has it
+-- the shape of each opcode, as the code's table has it
 unfoldable pub shapes : List Shape
 shapes =
     shape Register Nothing Register Nothing 0 0 Next  -- MOVE
@@ -88,7 +93,7 @@ pub record OperandsBelow (q : RowLimits) (w : ℕ) : Type 0 where
   pub register : Below q.stack (registers_of w)
   pub child : Below q.children (child_bx w)
 
--- where a word of this flow goes: to its target, or past companions that it may own or the next word; otherwise to the next word alone
+-- what the flow of a word at pc asks: an executable word at its target, or an executable word at pc + k; `Next` asks nothing
 pub record FlowKept (p : Proto) (flow : Flow) (pc bx : ℕ) : Type 0 where
-  pub target : flow ≡ Target → Lands p (pos (pc + 1 + bx) -ℤ pos 131071)
+  pub target : flow ≡ Target → Lands p (pos (pc + 1 + bx) -ℤ pos offset_sbx)
   pub ahead : (k : ℕ) → flow ≡ Past k → T (is_executable (role_at p (pc + k)))

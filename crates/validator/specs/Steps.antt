@@ -20,7 +20,7 @@ State = WalkState × List ℕ
 
 -- ---- diagnostics
 
--- one added, by the bits of its four fields: counted modulo 2 ^ 32, and written where its record fits
+-- a diagnostic is added, given by the bits of its four fields: counted modulo 2 ^ 32, and written where its record fits
 unfoldable pub emitted : ℕ → ℕ → ℕ → ℕ → State → State
 emitted row pc code value s = (
   record {
@@ -34,16 +34,16 @@ emitted row pc code value s = (
   overwrite s.1 (diagnostic_bytes * s.0.count) (u32_record (row ∷ pc ∷ code ∷ value ∷ [])),
 )
 
--- one added where it has a value
+-- a diagnostic is added where there is a value for it
 unfoldable pub emitted_if : ℕ → ℕ → ℕ → Option ℕ → State → State
 emitted_if row pc code None s = s
 emitted_if row pc code (Some value) s = emitted row pc code value s
 
--- one of a row
+-- a diagnostic of a row is added
 unfoldable pub emit : ℕ → State → Diagnostic → State
 emit row s d = emitted row (i32_bits d.pc) d.code (i32_bits d.value) s
 
--- some of a row, in order
+-- diagnostics of a row are added, in order
 unfoldable pub emit_all : ℕ → List Diagnostic → State → State
 emit_all row ds s = foldl (emit row) s ds
 
@@ -75,7 +75,7 @@ own_steps table words s = foldl (take_step s.0.row) s (proto_steps (proto_in tab
 unfoldable pub onward : ℕ → State → State
 onward words s = cond s.0.limit s (moved_to (s.0.first + words) s.0, s.1)
 
--- the next row
+-- the next row's own steps, and on to the row after it
 unfoldable pub step_row : List ℕ → List ℕ → State → State
 step_row table words s = onward (row_at table s.0.row).words (own_steps table words s)
 

@@ -14,7 +14,7 @@ use Rattle.roles.specs.Bounds.{CoversRows, FewRows, HasRow}
 use Rattle.roles.specs.Terms.{refused_of}
 use Rattle.roles.specs.declared.refusals.Refusal.{Refusal}
 use Rattle.validator_spec.specs.Diagnostics.{Diagnostic, diagnostic}
-use Rattle.validator_spec.specs.Walk.{Verdict, ValidForParser, Incomplete, Invalid, max_diagnostics, verdict_of}
+use Rattle.validator_spec.specs.Walk.{Verdict, ValidForParser, Incomplete, Invalid, diagnostic_limit, verdict_of}
 use Rattle.validator_spec.specs.Image.{Image}
 use Rattle.validator_spec.specs.Check.{Checked}
 use Rattle.validator.specs.declared.calls.Validation.{Validation}
@@ -34,7 +34,7 @@ use Rattle.validator.specs.declared.state.WalkState.{WalkState}
 abbrev pub image_of : List ℕ → List ℕ → ℕ → ℕ → Image
 image_of table words warnings errors = record { table = table; words = words; warnings = warnings; errors = errors }
 
--- as the code holds it
+-- the image, as the code holds it
 abbrev pub image_in : ImageCode → Image
 image_in i = image_of i.table.now i.words.now i.warnings i.errors
 
@@ -57,7 +57,7 @@ answer_of (Ok v) = accepted (checked_of v)
 unfoldable pub concluded : ℕ → ℕ → WalkState → Checked
 concluded warnings errors w =
     record {
-      verdict = verdict_of (nat_lt 0 errors || w.error) (w.limit || nat_lt max_diagnostics (warnings + errors + w.count));
+      verdict = verdict_of (nat_lt 0 errors || w.error) (w.limit || nat_lt diagnostic_limit (warnings + errors + w.count));
       count = w.count;
     }
 
@@ -89,7 +89,7 @@ code_number diagnosed.Closure002 = 17
 abbrev pub child_count : List ℕ → ℕ → ℕ
 child_count table i = length (children (row_at table i).depth (drop (suc i) (rows table)))
 
--- the prototype in row i, by its fields
+-- the limits of the prototype in row i
 unfoldable pub row_limits : List ℕ → ℕ → RowLimits
 row_limits table i =
     let r = row_at table i in
@@ -113,8 +113,8 @@ pub record Ordered (table : List ℕ) : Type 0 where
   pub depths : bad_depth 0 0 (rows table) ≡ none
   pub few : FewRows table
 
--- the rows from `row` on were counted: a list has the number of children of each, and a second one, at each depth but 0, how many of them are of this
--- depth and stand before any that is less deep; at depth 0, at most as many as were counted
+-- the rows from `row` on were counted: `counts` has the number of children of each; `pending` has, at each depth but 0, how many of these rows have
+-- this depth and stand before any that is less deep, and at depth 0 at most as many as were counted
 pub record Counted (table : List ℕ) (row : ℕ) (counts pending : List ℕ) : Type 0 where
   pub room : CoversRows table (length counts)
   pub deep : length pending ≡ 201
@@ -129,12 +129,12 @@ pub record HasLimits (p : Proto) (q : RowLimits) : Type 0 where
   pub stack : p.stack ≡ q.stack
   pub children : length p.children ≡ q.children
 
--- so many words has it, and these are their roles
+-- a prototype has as many words as `q` says, and their roles are those of the records
 pub record Stands (p : Proto) (q : RowLimits) (records : List ℕ) : Type 0 where
   pub words : length p.code ≡ q.words
   pub roles : (pc : ℕ) → role_in records pc ≡ role_at p pc
 
--- all that the code is given of it
+-- all that the code is given of a prototype
 pub record Describes (p : Proto) (q : RowLimits) (bytes records : List ℕ) : Type 0 where
   pub limits : HasLimits p q
   pub stands : Stands p q records
@@ -154,7 +154,7 @@ as_list (Some v) = v ∷ []
 
 -- ---- truncated owners
 
--- codes 1 and 2
+-- the diagnostics of a fault: codes 1 and 2
 unfoldable pub fault_diagnostics : Option Lua51RoleFault → List Diagnostic
 fault_diagnostics None = []
 fault_diagnostics (Some (fault.TruncatedClosure pc upvalues)) = diagnostic pc 1 (pos upvalues) ∷ []

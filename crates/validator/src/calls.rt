@@ -9,7 +9,7 @@ ghost use Rattle.roles.specs.Bounds.{CoversRows};
 ghost use Rattle.validator_spec.specs.Check.{Checked, check_answer, checked, diagnostics_after};
 ghost use Rattle.validator_spec.specs.Image.{diagnostics as found};
 ghost use Rattle.validator_spec.specs.Statements.{Guarantee};
-ghost use Rattle.validator_spec.specs.Walk.{max_diagnostics, diagnostic_bytes, diagnostic_fields, verdict_of};
+ghost use Rattle.validator_spec.specs.Walk.{diagnostic_limit, diagnostic_bytes, diagnostic_fields, verdict_of};
 ghost use Rattle.validator.specs.Terms.{answer_of, checked_of, concluded, image_in, image_of, verdict_of_case};
 ghost use Rattle.validator.specs.Steps.{Walked};
 
@@ -19,19 +19,19 @@ use crate::rows::CountedImage;
 use crate::state::WalkState;
 use crate::walk::validate_proto;
 use roles::calls::write_roles;
-use roles::refusals::{MAX_ROWS, Refusal};
-use roles::table::{FEW_ROWS, ROW_BYTES};
+use roles::refusals::{FEW_ROWS, MAX_ROWS, Refusal};
+use roles::table::ROW_BYTES;
 
 // The length of a record in bytes.
 pub const DIAGNOSTIC_BYTES: usize = 16;
 
-// The diagnostic limit: so many, with those that came in, end the walk at a test.
-const MAX_DIAGNOSTICS: u64 = 10000;
+// The diagnostic limit: this many, incoming ones included, end the walk at a test.
+const DIAGNOSTIC_LIMIT: u64 = 10000;
 
 // No image has more diagnostics: 9,999 before its last test, and a word that has 256.
-const MOST_DIAGNOSTICS: usize = 10255;
+const MAX_DIAGNOSTICS: usize = 10255;
 
-// What is said of an image.
+// What the check says of an image.
 #[derive(Clone, Copy, PartialEq, Eq, Debug)]
 pub enum Verdict {
     ValidForParser,
@@ -70,7 +70,7 @@ pub fn validate_chunk_lua51(
         warnings,
         errors,
     };
-    if MOST_DIAGNOSTICS <= diagnostics.len() / DIAGNOSTIC_BYTES {
+    if MAX_DIAGNOSTICS <= diagnostics.len() / DIAGNOSTIC_BYTES {
         return Ok(validate_once(&image, diagnostics));
     }
     validate_counted(&image, diagnostics)
@@ -112,7 +112,7 @@ fn validate_rows(image: &Image, out: &mut [u8]) -> WalkState
     }
 }
 
-// The same, for a table of at most N rows.
+// The walk over all rows of a table of at most N rows.
 fn validate_within<const N: usize>(image: &Image, out: &mut [u8]) -> WalkState
     requires rows { CoversRows image.now.table.now N }
     requires small { N ≤ max_rows }
@@ -137,11 +137,11 @@ fn validate_within<const N: usize>(image: &Image, out: &mut [u8]) -> WalkState
     validate_proto(start, &counted, out)
 }
 
-// How many diagnostics end the walk at a test, after those that came in.
+// The number of new diagnostics that end the walk at a test.
 fn stop_count(image: &Image) -> u16
-    ensures { result ≡ max_diagnostics - (image.now.warnings + image.now.errors) }
+    ensures { result ≡ diagnostic_limit - (image.now.warnings + image.now.errors) }
 {
-    MAX_DIAGNOSTICS.saturating_sub(image.incoming()) as u16
+    DIAGNOSTIC_LIMIT.saturating_sub(image.incoming()) as u16
 }
 
 // The verdict of a walk, and the number of its diagnostics.
@@ -164,12 +164,12 @@ fn has_errors(image: &Image, walk: WalkState) -> bool
 
 // Whether a test ended the walk, or there are more diagnostics than the limit.
 fn limit_reached(image: &Image, walk: WalkState) -> bool
-    ensures { result ≡ walk.limit || nat_lt max_diagnostics (image.now.warnings + image.now.errors + walk.count) }
+    ensures { result ≡ walk.limit || nat_lt diagnostic_limit (image.now.warnings + image.now.errors + walk.count) }
 {
-    walk.limit || MAX_DIAGNOSTICS < image.incoming() + walk.count as u64
+    walk.limit || DIAGNOSTIC_LIMIT < image.incoming() + walk.count as u64
 }
 
-// By whether there are errors and whether the limit was reached.
+// The verdict, by whether there are errors and whether the limit was reached.
 #[tactic(auto, unfolding(crate::specs::Terms::verdict_of_case, validator_spec::specs::Walk::verdict_of))]
 fn verdict_of(errors: bool, limit: bool) -> Verdict
     ensures { verdict_of_case result ≡ verdict_of errors limit }

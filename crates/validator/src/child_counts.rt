@@ -7,11 +7,11 @@ ghost use Rattle.validator.specs.Terms.{ChildCounts, Counted, Ordered};
 use roles::refusals::MAX_DEPTH;
 use roles::table::{Column, ROW_BYTES, Row};
 
-// So many depths a row can have, and one more.
+// One more than the depths that a row can have.
 const DEPTHS: usize = MAX_DEPTH as usize + 2;
 
-// Counts the children of each row, from the last row to the first. For each depth up to one more than the most, `pending` has how many of the rows
-// passed have it and stand before any that is less deep.
+// Counts the children of each row, from the last row to the first. For each depth, up to one more than the greatest, `pending` has the number of
+// passed rows that have this depth and stand before any that is less deep.
 pub fn count_children(table: &[u8], counts: &mut [u32])
     requires { Ordered table.now × CoversRows table.now (length counts.old) }
     ensures { ChildCounts table.now counts.new }
@@ -22,7 +22,7 @@ pub fn count_children(table: &[u8], counts: &mut [u32])
     }
 }
 
-// A row, after all rows behind it: those pending that are one deeper are its children, and it is one more of its own depth.
+// Counts a row, after all rows behind it: its children are the pending rows that are one deeper, and it becomes a pending row of its own depth.
 fn count_row(table: &[u8], number: usize, counts: &mut [u32], pending: &mut [u32])
     requires { Ordered table.now × HasRow table.now number × Counted table.now (number + 1) counts.old pending.old }
     ensures { Counted table.now number counts.new pending.new }

@@ -1,9 +1,9 @@
-// Words without a diagnostic are found fast: what an opcode names is looked up in a table, so that only whether it is known and where the word
-// goes make branches that depend on it, and the walk's state is not touched. A word that is not found clean is judged by `word`, whether it has
-// diagnostics or not. (The functions of `operands` make branches that depend on the opcode: the check took 19.5 ns a word without the table and
-// 9.3 with it, and a transcription with those functions 21.8, with the table 14.9.)
+// Finds words without a diagnostic fast: what an opcode names is looked up in a table. The code branches only on whether the opcode is known and on
+// where the word goes, and does not touch the walk's state. A word that is not found clean is judged by `word`, whether it has diagnostics or not.
+// (The functions of `operands` branch on the opcode. The check takes 19.5 ns a word without the table and 9.3 with it; a transcription with those
+// functions takes 21.8, and 14.9 with the table.)
 ghost use Rattle.std.specs.Prelude.{◌≡◌, ℕ, ◌+◌, ◌*◌, ◌/◌, ◌%◌, ◌<◌, ◌≤◌, true, false, [], length, pos, ◌-ℤ◌, nat_le, nat_lt, slice_index, slice_index_or};
-ghost use Rattle.opcodes.specs.Words.{decoded};
+ghost use Rattle.opcodes.specs.Words.{decoded, offset_sbx, opcode_count};
 ghost use Rattle.roles_spec.specs.Refusals.{max_word_bytes};
 ghost use Rattle.roles_spec.specs.Roles.{Executable};
 ghost use Rattle.roles_spec.specs.Table.{Proto};
@@ -11,22 +11,19 @@ ghost use Rattle.roles.specs.Bounds.{HasWord};
 ghost use Rattle.validator_spec.specs.Diagnostics.{diagnostics_at};
 ghost use Rattle.validator_spec.specs.Rules.{Lands};
 ghost use Rattle.validator.specs.Terms.{Describes, Stands};
-ghost use Rattle.validator.specs.Clean.{FlowKept, OperandsBelow, limits_of, names_nothing, slot, shapes};
+ghost use Rattle.validator.specs.Clean.{FlowKept, OperandsBelow, limits_of, names_nothing, no_limit, slot, shapes};
 
 use crate::operands::FLAG_LIMIT;
 use crate::rows::Body;
-use crate::word::{OFFSET_SBX, is_companion};
+use crate::word::is_companion;
 use base::bytes::u32_at;
-use opcodes::{Opcode51, RawInstruction51};
-
-// The last opcode that is known, by its number: numbers above it have no opcode, and the table of shapes is by number.
-const LAST_OPCODE: u8 = Opcode51::VarArg as u8;
+use opcodes::{LAST_OPCODE, OFFSET_SBX, OPCODE_COUNT, RawInstruction51};
 
 // Above every field of a word.
 const NO_LIMIT: u32 = 262144;
 
-// The limits of operands, in the order of the list of limits: of a field that names nothing, of a register, of an RK operand, of a constant, of an
-// upvalue, of a flag, of a child. A B or C of 256 or more, which has the bit of a constant, has the next limit: that of an RK operand is a constant's.
+// The limits of operands, in the order of the list of limits: of a field that names nothing, a register, an RK operand, a constant, an upvalue, a
+// flag, a child. A B or C of 256 or more has the bit of a constant and the next limit in the list: for an RK operand this is a constant's.
 #[derive(Clone, Copy)]
 enum Limit {
     Nothing,
@@ -42,7 +39,7 @@ enum Limit {
 }
 
 impl Limit {
-    // Its slot in the list.
+    // The limit's slot in the list.
     fn slot(self) -> usize
         ensures { result ≡ slot self }
     {
@@ -50,8 +47,8 @@ impl Limit {
     }
 }
 
-// Where a word goes: to the next word alone; to its target; or past companions that it may own, or the next word, to the word so many ahead, which has to
-// be executable.
+// Where a word goes: `Next`, to the next word alone; `Target`, to its target; `Past(n)`, past companions or past the next word: the word n ahead has
+// to be executable.
 #[derive(Clone, Copy)]
 enum Flow {
     Next,
@@ -195,7 +192,7 @@ const CHILD: Shape = Shape {
 };
 
 // What each opcode names and where its word goes. (It is a static, since a constant is copied to the stack where it is named.)
-static SHAPES: [Shape; 38] = [
+static SHAPES: [Shape; OPCODE_COUNT] = [
     A_B, // MOVE
     A_CONSTANT, // LOADK
     A_SKIP, // LOADBOOL
@@ -236,7 +233,7 @@ static SHAPES: [Shape; 38] = [
     VALUES, // VARARG
 ];
 
-// The first pc from `from` on whose word is not found clean, or the number of words. It is that of an executable word.
+// The first pc from `from` on whose word is not found clean, or the number of words. A word at this pc is executable.
 pub fn next_suspect(body: &Body, from: usize) -> usize
     requires { from ≤ length body.now.code.now / 4 }
     ensures in_range { (from ≤ result) × (result ≤ length body.now.code.now / 4) }
@@ -298,7 +295,7 @@ impl<'a> CleanTest<'a> {
 
     // Whether all that the word names is below its limit.
     fn operands_below(&self, shape: Shape, w: RawInstruction51) -> bool
-        requires { (w ≡ decoded w.raw) × (w.opcode_num < 38) × (shape ≡ slice_index_or shapes w.opcode_num names_nothing) }
+        requires { (w ≡ decoded w.raw) × (w.opcode_num < opcode_count) × (shape ≡ slice_index_or shapes w.opcode_num names_nothing) }
         ensures { result ≡ true → OperandsBelow self.now.body.now.limits w.raw }
     {
         let limits = self.limits;
@@ -320,7 +317,7 @@ fn is_below(limits: &[u32], limit: Limit, value: u32) -> bool
     value < limits[limit.slot()]
 }
 
-// B or C: a value that has the bit of a constant has the next slot.
+// Whether B or C is below its limit. The limit of a value with the bit of a constant is in the next slot.
 fn field_below(limits: &[u32], limit: Limit, value: u16) -> bool
     requires { (slot limit + 1 < length limits.now) × (value < 512) }
     ensures { result ≡ nat_lt (value % 256) (slice_index limits.now (slot limit + value / 256)) }
@@ -338,7 +335,7 @@ fn span_below(stack: u32, span: u8, a: u8, value: u16) -> bool
 
 // Whether the word has no target or an executable one, and skips to no companion and owns none.
 fn goes_to_word(body: &Body, flow: Flow, pc: u32, bx: u32) -> bool
-    requires { (4 * pc < max_word_bytes) × (bx < 262144) }
+    requires { (4 * pc < max_word_bytes) × (bx < no_limit) }
     ensures { (p : Proto) → Stands p body.now.limits body.now.roles.now → result ≡ true → FlowKept p flow pc bx }
 {
     match flow {
@@ -348,9 +345,9 @@ fn goes_to_word(body: &Body, flow: Flow, pc: u32, bx: u32) -> bool
     }
 }
 
-// Whether an executable word stands at a target that is so much, less the offset of sBx.
+// Whether an executable word stands at a target. `sum` is pc + 1 + Bx; the target is sum - OFFSET_SBX.
 fn target_is_word(body: &Body, sum: u32) -> bool
-    ensures { (p : Proto) → Stands p body.now.limits body.now.roles.now → result ≡ true → Lands p (pos sum -ℤ pos 131071) }
+    ensures { (p : Proto) → Stands p body.now.limits body.now.roles.now → result ≡ true → Lands p (pos sum -ℤ pos offset_sbx) }
 {
     if sum < OFFSET_SBX {
         return false;

@@ -2,7 +2,10 @@
 ghost use Rattle.std.specs.Prelude.{◌≡◌};
 ghost use Rattle.validator.specs.Terms.{code_number};
 
-// Each with luad's name, its number is document 01's.
+// The number of codes, which are numbered from 1.
+pub const CODE_COUNT: usize = 17;
+
+// The codes, by luad's names and document 01's numbers.
 #[derive(Clone, Copy, PartialEq, Eq, Debug)]
 pub enum Code {
     // L51-CLOSURE-001

@@ -45,7 +45,7 @@ pub fn find_fault(row: &RowBody) -> Option<Lua51RoleFault>
     }
 }
 
-// The owner of the word at pc, or that pc where it is executable.
+// The pc of the owner of the word at pc, or pc itself where that word is executable.
 #[tactic(auto, unfolding(roles_spec::specs::Roles::last_owner))]
 fn last_owner(roles: &[u8], pc: u32) -> u32
     ensures { result ≡ last_owner pc (role_in roles.now pc) }
@@ -65,8 +65,8 @@ fn owned_words(row: &RowBody, w: RawInstruction51) -> u32
     }
 }
 
-// How many upvalues child k of the row's prototype has. A missing child has none. (Inlined: else the row lies in memory in each frame of the walk, 96
-// bytes a level.)
+// The number of upvalues of child k of the row's prototype. A missing child has none. (Inlined: otherwise the row takes 96 bytes in each frame of the
+// walk.)
 #[inline(always)]
 fn child_upvalues(row: &RowBody, k: u32) -> u32
     ensures { (words : List ℕ) → result ≡ slice_index (proto_with row.now words).children k }

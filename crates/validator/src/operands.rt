@@ -130,7 +130,7 @@ impl KnownWord {
     }
 }
 
-// The last of so many registers but `implied`, from `start` on, where any are left.
+// The last of `count - implied` registers from `start` on, if there are any.
 #[tactic(auto, unfolding(base::specs::Lists::only))]
 fn window(start: u32, count: u16, implied: u16) -> Option<u32>
     requires { start ≤ 256 }

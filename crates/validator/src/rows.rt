@@ -1,4 +1,4 @@
-// A row of the table to the functions that judge its prototype: its limits, with its words and their roles, with the table.
+// What the functions that judge a row's prototype get: its limits; with these its words and their roles; with those the table.
 ghost use Rattle.std.specs.Prelude.{◌≡◌, ◌+◌, ◌*◌, ◌/◌, ◌<◌, ◌≤◌, length};
 ghost use Rattle.base.specs.Bytes.{u32s};
 ghost use Rattle.roles_spec.specs.Refusals.{max_word_bytes};
@@ -21,10 +21,10 @@ pub struct RowLimits {
     pub children: u32,
 }
 
-// A prototype to the functions that look at its words: its row's fields, its words and their roles.
-// (Their contracts speak of every prototype that it describes: that is a term of the definitions, made of the whole table, which they are not lent, and a
-// ghost field is a fact and could not be that term. That a pc is one of its words stands at the three functions that get one: a struct of both would be
-// made anew for each word.)
+// What the functions that look at a prototype's words get: its row's fields, its words and their roles.
+// (Their contracts speak of every prototype that a body describes. A prototype is a term of the definitions, made of the whole table, which they are
+// not lent; a ghost field is a fact and could not be such a term. The three functions that get a pc require that it is one of the words: a struct of
+// both would be made anew for each word.)
 #[derive(Clone, Copy)]
 pub struct Body<'a> {
     pub limits: RowLimits,
@@ -45,7 +45,7 @@ pub struct CountedImage<'a> {
     ghost counted: { ChildCounts table.now counts.now },
 }
 
-// A row to the functions that judge its prototype: the table that it stands in, and the prototype with its words and their roles.
+// What the functions that judge a row's prototype get: the table that the row stands in, and the prototype with its words and their roles.
 #[derive(Clone, Copy)]
 pub struct RowBody<'a> {
     pub table: &'a [u8],
@@ -62,7 +62,7 @@ impl<'a> CountedImage<'a> {
         self.table.len() / ROW_BYTES
     }
 
-    // The prototype in a row.
+    // The limits of the prototype in a row.
     pub fn row_limits(&self, number: usize) -> RowLimits
         requires { HasRow self.now.table.now number }
         ensures { result ≡ row_limits self.now.table.now number }

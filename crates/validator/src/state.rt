@@ -22,8 +22,8 @@ pub struct WalkState {
     pub limit: bool,
 }
 
-// Where a diagnostic stands: the row of a prototype and a pc in it, by the bits of its fields. (That of a stack is of no word: its pc is -1, document 01's
-// place for the prototype as a whole, which an Option would have to be made again in each record.)
+// Where a diagnostic stands: the row of a prototype and a pc in it, by the bits of its fields. (A stack's diagnostic has no word: its pc is -1, which
+// is document 01's place for the whole prototype. An Option would have to be made -1 in each record.)
 #[derive(Clone, Copy)]
 pub struct Location {
     pub row: u32,
@@ -53,8 +53,8 @@ impl WalkState {
         self
     }
 
-    // Adds a diagnostic, its value given by its bits: it is counted, and written where its record fits. (It is counted modulo 2^32, which the
-    // limit keeps far away.) Here and below place, code and value are parameters: two of the four methods have the first two before there is a value.
+    // Adds a diagnostic, its value given by its bits: it is counted, and written where its record fits. (It is counted modulo 2^32, which the limit
+    // keeps far away. Place, code and value are parameters of their own: two of the four methods get place and code before there is a value.)
     #[tactic(auto, unfolding(crate::specs::Steps::emitted))]
     pub fn emit(mut self, out: &mut [u8], at: Location, code: Code, value: u32) -> WalkState
         ensures { (result, out.new) ≡ emitted at.row at.pc (code_number code) value (self, out.old) }
@@ -68,7 +68,7 @@ impl WalkState {
         self
     }
 
-    // Adds the diagnostic of a word after a test.
+    // Tests the limit and, where the walk goes on, adds the diagnostic of a word.
     pub fn report(self, out: &mut [u8], at: Location, code: Code, value: u32) -> WalkState
         ensures { (result, out.new) ≡ take_step at.row (self, out.old) (tested_step (diagnostic at.pc (code_number code) (pos value) ∷ [])) }
     {
@@ -79,7 +79,7 @@ impl WalkState {
         walk.emit(out, at, code, value)
     }
 
-    // Adds a diagnostic where it has a value.
+    // Adds a diagnostic where there is a value for it.
     #[tactic(auto, unfolding(crate::specs::Steps::emitted_if))]
     pub fn emit_if(self, out: &mut [u8], at: Location, code: Code, value: Option<u32>) -> WalkState
         ensures { (result, out.new) ≡ emitted_if at.row at.pc (code_number code) value (self, out.old) }

@@ -22,11 +22,11 @@ use base::bytes::MINUS_ONE;
 use roles::role::ROLE_BYTES;
 use roles::table::{Column, Row};
 
-// A larger stack is a diagnostic.
+// The largest stack without a diagnostic.
 const USUAL_STACK: u32 = 250;
 
-// The next row and all rows below it. (That it is there, and where its words begin, are clauses and no ghost fields: they tie the table to a walk state,
-// which is a value that functions take and hand back.)
+// Walks the next row and all rows below it. (That the row is there, and where its words begin, are clauses and not ghost fields: they tie the table
+// to a walk state, which is a value that functions take and hand back.)
 #[cycle(walk)]
 pub fn validate_proto(walk: WalkState, counted: &CountedImage, out: &mut [u8]) -> WalkState
     requires there { HasRow counted.now.table.now walk.row }
@@ -42,8 +42,8 @@ pub fn validate_proto(walk: WalkState, counted: &CountedImage, out: &mut [u8]) -
     validate_children(own.moved(next), counted, out, limits.depth)
 }
 
-// The rows from the next one on that are deeper than this depth: the children of a prototype, each with the rows below it. (A `while`: each child moves
-// the walk past all rows below it, so that no count of rows is at hand.)
+// Walks the rows from the next one on that are deeper than this depth: the children of a prototype, each with the rows below it. (A `while`: each
+// child moves the walk past all rows below it.)
 #[cycle(walk)]
 fn validate_children(
     mut walk: WalkState,
@@ -78,7 +78,7 @@ fn goes_on(walk: WalkState, counted: &CountedImage, depth: u32) -> bool
     !walk.limit && number < counted.rows() && depth < Row { table, number }.field(Column::Depth)
 }
 
-// The prototype in the next row, with its part of the words and of the roles.
+// Judges the prototype in the next row, with its part of the words and of the roles.
 fn validate_row(
     walk: WalkState,
     counted: &CountedImage,
@@ -155,7 +155,7 @@ fn validate_stack(walk: WalkState, out: &mut [u8], limits: &RowLimits) -> WalkSt
     walk.emit_if(out, at, Code::Stack001, large)
 }
 
-// The words, each after a test. The test before a word that has no diagnostics gives what the last one gave, so these are passed over after one.
+// Judges the words, each after a test. Words without diagnostics are passed over after one test: the tests before them would all give the same.
 // (A `while`: `next_suspect` finds the next pc.)
 fn validate_words(mut walk: WalkState, out: &mut [u8], body: &Body) -> WalkState
     ensures { (p : Proto) → Describes p body.now.limits body.now.code.now body.now.roles.now → (result, out.new) ≡ foldl (take_step body.now.limits.row) (walk, out.old) (map (λ pc. tested_step (diagnostics_at p pc)) (up_from 0 (length body.now.code.now / 4))) }

@@ -2,7 +2,7 @@
 ghost use Rattle.std.specs.Prelude.{◌≡◌, ◌+◌, ◌*◌, ◌/◌, ◌<◌, not, ◌&&◌, T, [], ◌∷◌, length, pos, ◌-ℤ◌};
 ghost use mathlib.Core.List.{flat_map, flatten};
 ghost use Rattle.base.specs.Lists.{only, up_from};
-ghost use Rattle.opcodes.specs.Words.{CLOSURE, is};
+ghost use Rattle.opcodes.specs.Words.{CLOSURE, is, offset_sbx};
 ghost use Rattle.roles_spec.specs.Roles.{Executable, binding_words, is_executable, role_in, word_at};
 ghost use Rattle.roles_spec.specs.Table.{Proto};
 ghost use Rattle.roles.specs.Bounds.{HasWord};
@@ -17,13 +17,10 @@ use crate::rows::{Body, RowLimits};
 use crate::state::{Location, WalkState};
 use base::bytes::{MINUS_ONE, u32_at};
 use opcodes::Field::{B, C};
-use opcodes::{OpMode51, Opcode51, OpcodeField, RawInstruction51};
+use opcodes::{OFFSET_SBX, OpMode51, Opcode51, OpcodeField, RawInstruction51};
 use roles::role::role_at;
 
-// What Bx has more than sBx.
-pub const OFFSET_SBX: u32 = RawInstruction51::OFFSET_SBX as u32;
-
-// The word at pc: of an unknown opcode, nothing but that.
+// Judges the word at pc. Where its opcode is unknown, code 4 is all.
 pub fn validate_word(walk: WalkState, out: &mut [u8], body: &Body, pc: usize) -> WalkState
     requires { HasWord body.now.code.now pc }
     ensures { (p : Proto) → Describes p body.now.limits body.now.code.now body.now.roles.now → Executable p pc → (result, out.new) ≡ emit_all body.now.limits.row (word_diagnostics p pc (word_at p pc)) (walk, out.old) }
@@ -45,7 +42,7 @@ pub fn validate_word(walk: WalkState, out: &mut [u8], body: &Body, pc: usize) ->
     walk
 }
 
-// Where it goes: codes 5 and 6.
+// Judges where the word goes: codes 5 and 6.
 fn validate_flow(walk: WalkState, out: &mut [u8], body: &Body, word: &KnownWord) -> WalkState
     ensures { (p : Proto) → Stands p body.now.limits body.now.roles.now → (result, out.new) ≡ emit_all word.now.at.row (flatten (jump_diagnostics p word.now.at.pc word.now.w.raw ∷ skip_diagnostics p word.now.at.pc word.now.w.raw ∷ [])) (walk, out.old) }
 {
@@ -54,7 +51,7 @@ fn validate_flow(walk: WalkState, out: &mut [u8], body: &Body, word: &KnownWord)
     walk.emit_if(out, word.at, Code::Jmp002, hit.then_some(word.at.pc + 2))
 }
 
-// The target of a word that has one.
+// Judges the target of a word that has one.
 fn validate_jump(walk: WalkState, out: &mut [u8], body: &Body, word: &KnownWord) -> WalkState
     ensures { (p : Proto) → Stands p body.now.limits body.now.roles.now → (result, out.new) ≡ emit_all word.now.at.row (jump_diagnostics p word.now.at.pc word.now.w.raw) (walk, out.old) }
 {
@@ -65,7 +62,7 @@ fn validate_jump(walk: WalkState, out: &mut [u8], body: &Body, word: &KnownWord)
     }
 }
 
-// A target that is so much, less the offset of sBx. (`target_is_word` sees the same: this tells which diagnostic and emits it, that answers a bool.)
+// Judges a target. `sum` is pc + 1 + Bx; the target is sum - OFFSET_SBX. (`target_is_word` makes the same tests and answers a bool.)
 fn validate_target(
     walk: WalkState,
     out: &mut [u8],
@@ -73,7 +70,7 @@ fn validate_target(
     at: Location,
     sum: u32,
 ) -> WalkState
-    ensures { (p : Proto) → Stands p body.now.limits body.now.roles.now → (result, out.new) ≡ emit_all at.row (target_diagnostics p at.pc (pos sum -ℤ pos 131071)) (walk, out.old) }
+    ensures { (p : Proto) → Stands p body.now.limits body.now.roles.now → (result, out.new) ≡ emit_all at.row (target_diagnostics p at.pc (pos sum -ℤ pos offset_sbx)) (walk, out.old) }
 {
     if sum < OFFSET_SBX {
         return walk.emit(out, at, Code::Jmp001, MINUS_ONE - (OFFSET_SBX - 1 - sum));
@@ -100,7 +97,7 @@ pub fn is_companion(roles: &[u8], pc: usize) -> bool
     !role_at(roles, pc).is_executable()
 }
 
-// What it names: codes 7 to 16.
+// Judges what the word names: codes 7 to 16.
 fn validate_operands(
     walk: WalkState,
     out: &mut [u8],
@@ -126,8 +123,8 @@ fn validate_operands(
     walk.check(out, at, Code::Proto002, word.child_bx(), limits.children)
 }
 
-// The companions of the CLOSURE at pc, each at its own pc. (The roles alone say where they end, so this is a `while`: a `for` over the words would test for
-// their end too.)
+// Judges the companions of the CLOSURE at pc, each at its own pc. (A `while`: the roles alone tell where the companions end. A `for` over the words
+// would test for the end of the words too.)
 #[tactic(auto, using(crate::proofs::BindingLaws::has_record))]
 fn validate_bindings(mut walk: WalkState, out: &mut [u8], body: &Body, pc: usize) -> WalkState
     requires { HasWord body.now.code.now pc }
@@ -146,7 +143,7 @@ fn validate_bindings(mut walk: WalkState, out: &mut [u8], body: &Body, pc: usize
     walk
 }
 
-// A binding word: code 12 or 8 for what it captures, or code 17 where its opcode captures nothing.
+// Judges a binding word: code 12 or 8 for what it captures, or code 17 where its opcode captures nothing.
 fn validate_binding(
     walk: WalkState,
     out: &mut [u8],

@@ -15,11 +15,11 @@ use Rattle.roles_spec.specs.Roles.{Executable, is_executable, role_at, word_at, 
 use Rattle.validator_spec.specs.Operands.{is_jump, is_skip, is_loadbool_skip, skip_target, target}
 use Rattle.validator_spec.specs.Rules.{Lands, RulesAt, WellFormed, OperandsInRange}
 use Rattle.validator_spec.specs.Executions.{State, at, left, arrive, next, meet, run_from, run, MayLeave, MayMeet, SafeRun}
-use Rattle.base.proofs.TestLaws.{t_and, by_cond, by_or, or_right, disjoint}
+use Rattle.base.proofs.BoolLaws.{t_and, by_cond, by_or, or_right, disjoint}
 use Rattle.opcodes.proofs.OpcodeTestLaws.{is_among}
 use Rattle.roles_spec.proofs.RoleLaws.{role, executable, first_executable, next_executable, owns_none}
 
--- a run may be here
+-- a run may be in this state: at an executable word, or gone where it may leave
 abbrev Fine : Proto → State → Type 0
 Fine p (at pc) = Executable p pc
 Fine p (left e) = MayLeave p e
@@ -66,7 +66,7 @@ next_fine p pc choice x k =
     (λ t. by_cond (Fine p) choice _ _ (λ _. is_among w (TAILCALL ∷ []) (RETURN ∷ TAILCALL ∷ []) tt t) (λ _. on_fine p pc x (TAILCALL ∷ []) tt tt t))
     (λ _. rw (all_there p pc k.truncated) (arrive_role p (pc + 1 + owned p pc) (next_executable p pc x))))))))
 
--- the operands that the rules speak of are those that a run names
+-- where the rules are kept at a word, the operands that it names are in range
 in_range : (p : Proto) (pc : ℕ) → RulesAt p pc → OperandsInRange p pc
 in_range p pc k =
     record {

@@ -11,7 +11,7 @@ use Rattle.roles_spec.specs.Table.{rows, protos}
 use Rattle.roles_spec.specs.Roles.{roles, role_bytes, records_of}
 use Rattle.roles_spec.specs.Refusals.{Refused, image_refusal, roles_refusal, word_total}
 use Rattle.roles_spec.specs.Calls.{accepted, refused, roles_after, bindings_answer, bindings_after}
-use Rattle.validator_spec.specs.Walk.{Verdict, most_diagnostics, diagnostic_fields, diagnostic_bytes}
+use Rattle.validator_spec.specs.Walk.{Verdict, max_diagnostics, diagnostic_fields, diagnostic_bytes}
 use Rattle.validator_spec.specs.Image.{Image, image_protos, diagnostics, verdict}
 use Rattle.validator_spec.specs.Check.{Checked, checked, check_refusal, check_answer, diagnostics_after}
 use Rattle.validator_spec.specs.Statements.{Guarantee}
@@ -42,7 +42,7 @@ check_guaranteed i role_length diagnostics_length c e =
       valid = λ q. all_imp (λ p w. record { well_formed = w; runs = runs_safe p w }) (valid_well_formed i (sym v ∙ q));
       exact = λ z h. verdict_iff v (valid_well_formed i, well_formed_valid i z h);
       invalid = verdict_iff v (invalid_iff i);
-      most = subst⁻¹ (λ (m : ℕ). m ≤ most_diagnostics) n (at_most i a);
+      most = subst⁻¹ (λ (m : ℕ). m ≤ max_diagnostics) n (at_most i a);
     }
 
 -- what a refused call leaves of the role buffer
@@ -51,7 +51,7 @@ RolesLeft table words old r =
     (r.number ≢ 8 → roles_after table words old ≡ old)
     × (r.number ≡ 8 → roles_after table words old ≡ records_of (flat_map roles (protos table words)) ++ drop (role_bytes * word_total (rows table)) old)
 
--- from what it met
+-- a refused call leaves this, whether the refusal is 8 or another
 roles_of_refused : (table words old : List ℕ) (r : Refused) → (r.number ≡ 8 → roles_refusal table words (length old) ≡ none) → (r.number ≢ 8 → roles_after table words old ≡ old)
     → RolesLeft table words old r
 roles_of_refused table words old r met left = (left, λ h. roles_written table words old (met h))
@@ -70,7 +70,7 @@ check_leaves i role_buffer buffer r e =
     let left = roles_left i.table i.words role_buffer _ _ _ _ r e in
     (refused_leaves (check_refusal i (length role_buffer) (length buffer)) _ r buffer _ e, roles_of_refused i.table i.words role_buffer r left.0 left.1)
 
--- an accepted one leaves its records in front of both buffers
+-- an accepted call leaves its records in front of both buffers
 pub check_written : (i : Image) (role_buffer buffer : List ℕ) (c : Checked) → check_answer i (length role_buffer) (length buffer) ≡ accepted c
     → (diagnostics_after i (length role_buffer) buffer ≡ i32_record (flat_map diagnostic_fields (diagnostics i)) ++ drop (diagnostic_bytes * length (diagnostics i)) buffer)
     × (roles_after i.table i.words role_buffer ≡ records_of (flat_map roles (image_protos i)) ++ drop (role_bytes * word_total (rows i.table)) role_buffer)

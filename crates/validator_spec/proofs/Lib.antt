@@ -5,7 +5,7 @@ pub mod LimitLaws
 pub mod MostLaws
 pub mod RangeLaws
 pub mod RecordLaws
-pub mod RuleLaws
+pub mod RuleDiagnosticLaws
 pub mod OperandLaws
 pub mod RunLaws
 pub mod Theorems

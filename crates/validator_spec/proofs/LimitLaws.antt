@@ -18,16 +18,16 @@ use Rattle.roles_spec.proofs.TableLaws.{children_most}
 use Rattle.roles_spec.specs.Roles.{is_executable, role_at, executable_at, word_at, binding_count, existing, binding_words}
 use Rattle.validator_spec.specs.Operands.{is_unknown, is_binding, is_jump, target, is_skip, is_loadbool_skip, skip_target, constant_bx, upvalue_b, flag_a, register_a, span_ends, register_in, constant_in, child_bx, captured_register, captured_upvalue}
 use Rattle.validator_spec.specs.Diagnostics.{Diagnostic, diagnostic, opcode_value, not_below, truncation_at, has_large_stack, stack_diagnostics, opcode_diagnostics, target_diagnostics, jump_diagnostics, skip_diagnostics, binding_diagnostics, operand_diagnostics, known_diagnostics, word_diagnostics, diagnostics_at, Step, tested_step, untested_step, proto_steps}
-use Rattle.roles_spec.specs.Refusals.{image_refusal}
+use Rattle.roles_spec.specs.Refusals.{image_refusal, max_upvalues}
 use Rattle.std.proofs.Math.Option.{none}
-use Rattle.validator_spec.specs.Walk.{in_row, Walk, max_diagnostics, most_diagnostics, count_n, start, advance, walk_row, walk_from, walk}
+use Rattle.validator_spec.specs.Walk.{in_row, Walk, diagnostic_limit, max_diagnostics, count_n, start, advance, walk_row, walk_from, walk}
 use Rattle.validator_spec.specs.Image.{Image, image_protos, image_walk, diagnostics}
 use Rattle.base.proofs.AllLaws.{all_get_d, all_imp}
 use Rattle.base.proofs.ListLaws.{length_up_from, select_most}
-use Rattle.base.proofs.TestLaws.{true≢false, or_false, t_true, by_cond, disjoint}
+use Rattle.base.proofs.BoolLaws.{true≢false, or_false, t_true, by_cond, disjoint}
 use Rattle.opcodes.proofs.OpcodeTestLaws.{is_not, is_among}
 
--- ---- lists end to end, so many at most
+-- ---- the most elements of lists end to end
 
 record AtMost {A : Type 0} (L : List (List A)) (n : ℕ) : Type 0 where
   most : length (flatten L) ≤ n
@@ -56,7 +56,7 @@ below_most pc code limit vs n h =
 one : (pc code limit : ℕ) (b : Bool) (x : ℕ) → length (not_below pc code limit (only b x)) ≤ 1
 one pc code limit b x = below_most pc code limit (only b x) 1 (only_most b x)
 
--- each of n adds one at most
+-- each element adds one at most
 flat_map_most : {A B : Type 0} (f : A → List B) → ((x : A) → length (f x) ≤ 1) → (xs : List A) → length (flat_map f xs) ≤ length xs
 unfolding flat_map
 flat_map_most f h [] = omega arith
@@ -164,7 +164,7 @@ unfolding jump_diagnostics is_jump skip_diagnostics is_skip is_loadbool_skip onl
 closure_jumps p pc w t =
     simp (is_not w (CLOSURE ∷ []) with_sbx tt t, is_not w (CLOSURE ∷ []) (EQ ∷ LT ∷ LE ∷ TEST ∷ TESTSET ∷ TFORLOOP ∷ []) tt t, is_not w (CLOSURE ∷ []) (LOADBOOL ∷ []) tt t)
 
-child_most : (p : Proto) (pc w : ℕ) → T (is w (CLOSURE ∷ [])) → All (λ n. n ≤ 255) p.children
+child_most : (p : Proto) (pc w : ℕ) → T (is w (CLOSURE ∷ [])) → All (λ n. n ≤ max_upvalues) p.children
     → length (not_below pc 16 (length p.children) (child_bx w)) + binding_count p w ≤ 255
 unfolding not_below child_bx only binding_count
 child_most p pc w t h = rw (t_true (is w (CLOSURE ∷ [])) t) (go (leb (length p.children) (field_bx w)) refl)
@@ -174,7 +174,7 @@ child_most p pc w t h = rw (t_true (is w (CLOSURE ∷ [])) t) (go (leb (length p
     go true e = omega (arith, get_or-eq_default p.children 0 (leb-true _ _ e))
     go false e = omega (arith, all_get_d (field_bx w) 0 (omega arith) h)
 
-closure_most : (p : Proto) (pc : ℕ) → T (is (word_at p pc) (CLOSURE ∷ [])) → All (λ n. n ≤ 255) p.children → length (known_diagnostics p pc (word_at p pc)) ≤ 256
+closure_most : (p : Proto) (pc : ℕ) → T (is (word_at p pc) (CLOSURE ∷ [])) → All (λ n. n ≤ max_upvalues) p.children → length (known_diagnostics p pc (word_at p pc)) ≤ 256
 unfolding known_diagnostics register_a
 closure_most p pc t h =
     let w = word_at p pc in
@@ -188,7 +188,7 @@ closure_most p pc t h =
 
 -- ---- a word, whatever it is
 
-word_most : (p : Proto) (pc : ℕ) → All (λ n. n ≤ 255) p.children → length (diagnostics_at p pc) ≤ 256
+word_most : (p : Proto) (pc : ℕ) → All (λ n. n ≤ max_upvalues) p.children → length (diagnostics_at p pc) ≤ 256
 unfolding diagnostics_at word_diagnostics opcode_diagnostics only
 word_most p pc h = at (executable_at p pc) (is_unknown (word_at p pc)) (is (word_at p pc) (CLOSURE ∷ [])) refl
   where
@@ -201,37 +201,37 @@ word_most p pc h = at (executable_at p pc) (is_unknown (word_at p pc)) (is (word
 
 -- ---- the walk
 
--- so many found at most, and where the walk goes on, so many
+-- at most `max_diagnostics` are found, and at most `going` where the walk goes on
 record Within (going : ℕ) (v : Walk) : Type 0 where
-  most : length v.found ≤ most_diagnostics
+  most : length v.found ≤ max_diagnostics
   while_going : v.ended ≡ false → length v.found ≤ going
 
 within_more : {m n : ℕ} {v : Walk} → m ≤ n → Within m v → Within n v
 within_more h k = record { most = k.most; while_going = λ e. omega (arith, k.while_going e) }
 
--- a step is one of two
-step_within : (incoming row m n : ℕ) (v : Walk) (s : Step) → Within m v → (v.ended ≡ false → (s.tested && leb max_diagnostics (count_n incoming v)) ≡ false → length v.found + length s.adds ≤ n)
-    → n ≤ 10255 → Within n (advance incoming row v s)
+-- a step ends the walk or adds its diagnostics
+step_within : (incoming row m n : ℕ) (v : Walk) (s : Step) → Within m v → (v.ended ≡ false → (s.tested && leb diagnostic_limit (count_n incoming v)) ≡ false → length v.found + length s.adds ≤ n)
+    → n ≤ max_diagnostics → Within n (advance incoming row v s)
 unfolding advance
-step_within incoming row m n v s k h l = go (v.ended || s.tested && leb max_diagnostics (count_n incoming v)) refl
+step_within incoming row m n v s k h l = go (v.ended || s.tested && leb diagnostic_limit (count_n incoming v)) refl
   where
-    go : (b : Bool) → (v.ended || s.tested && leb max_diagnostics (count_n incoming v)) ≡ b
+    go : (b : Bool) → (v.ended || s.tested && leb diagnostic_limit (count_n incoming v)) ≡ b
         → Within n (cond b (record { found = v.found; ended = true }) (record { found = v.found ++ map (in_row row) s.adds; ended = false }))
     go true e = record { most = k.most; while_going = λ f. true≢false f }
     go false e =
-        let t = or_false v.ended (s.tested && leb max_diagnostics (count_n incoming v)) e in
+        let t = or_false v.ended (s.tested && leb diagnostic_limit (count_n incoming v)) e in
         let count : length (v.found ++ map (in_row row) s.adds) ≤ n =
         omega (arith, length-append v.found (map (in_row row) s.adds), length-map s.adds (in_row row), h t.0 t.1) in
         record { most = omega arith; while_going = λ _. count }
 
--- tested, and adding so many: N was below the limit before it
+-- a tested step that adds at most a: N was below the limit before it
 tested_within : (incoming row m a : ℕ) (v : Walk) (ds : List Diagnostic) → Within m v → length ds ≤ a → a ≤ 256 → Within (9999 + a) (advance incoming row v (tested_step ds))
 unfolding tested_step
 tested_within incoming row m a v ds k h l =
-    step_within incoming row m (9999 + a) v (tested_step ds) k (λ e t. omega (arith, leb-false max_diagnostics (count_n incoming v) t)) (omega arith)
+    step_within incoming row m (9999 + a) v (tested_step ds) k (λ e t. omega (arith, leb-false diagnostic_limit (count_n incoming v) t)) (omega arith)
 
--- not tested
-untested_within : (incoming row m a : ℕ) (v : Walk) (ds : List Diagnostic) → Within m v → length ds ≤ a → m + a ≤ 10255 → Within (m + a) (advance incoming row v (untested_step ds))
+-- an untested step
+untested_within : (incoming row m a : ℕ) (v : Walk) (ds : List Diagnostic) → Within m v → length ds ≤ a → m + a ≤ max_diagnostics → Within (m + a) (advance incoming row v (untested_step ds))
 unfolding untested_step
 untested_within incoming row m a v ds k h l =
     step_within incoming row m (m + a) v (untested_step ds) k (λ e t. omega (arith, k.while_going e)) l
@@ -244,7 +244,7 @@ steps_within incoming row a f h l (x ∷ xs) v k =
     steps_within incoming row a f h l xs (advance incoming row v (tested_step (f x))) (tested_within incoming row (9999 + a) a v (f x) k (h x) l)
 
 -- a row: its start, its truncations, its stack, its words
-row_within : (incoming row : ℕ) (p : Proto) (v : Walk) → All (λ n. n ≤ 255) p.children → Within 10255 v → Within 10255 (walk_row incoming row v (proto_steps p))
+row_within : (incoming row : ℕ) (p : Proto) (v : Walk) → All (λ n. n ≤ max_upvalues) p.children → Within max_diagnostics v → Within max_diagnostics (walk_row incoming row v (proto_steps p))
 unfolding walk_row proto_steps flatten stack_diagnostics
 row_within incoming row p v h k =
     let pcs = up_from 0 (length p.code) in
@@ -253,22 +253,22 @@ row_within incoming row p v h k =
     let first = step v (tested_step []) in
     let second = foldl step first (map (λ d. tested_step (d ∷ [])) cuts) in
     let third = step second (untested_step (stack_diagnostics p)) in
-    let a : Within 10000 first = within_more (omega arith) (tested_within incoming row 10255 0 v [] k (omega arith) (omega arith)) in
-    let b : Within 10000 second = steps_within incoming row 1 (λ d. d ∷ []) (λ d. omega arith) (omega arith) cuts first a in
+    let a : Within diagnostic_limit first = within_more (omega arith) (tested_within incoming row max_diagnostics 0 v [] k (omega arith) (omega arith)) in
+    let b : Within diagnostic_limit second = steps_within incoming row 1 (λ d. d ∷ []) (λ d. omega arith) (omega arith) cuts first a in
     let c : Within 10001 third = untested_within incoming row 10000 1 second (stack_diagnostics p) b (only_most (has_large_stack p) _) (omega arith) in
     let d = steps_within incoming row 256 (diagnostics_at p) (λ pc. word_most p pc h) (omega arith) pcs third (within_more (omega arith) c) in
     rw (append-nil, foldl-append step) d
 
 -- all rows
-walk_within : (incoming row : ℕ) (ps : List Proto) (v : Walk) → All (λ (p : Proto). All (λ n. n ≤ 255) p.children) ps → Within 10255 v → Within 10255 (walk_from incoming row v (map proto_steps ps))
+walk_within : (incoming row : ℕ) (ps : List Proto) (v : Walk) → All (λ (p : Proto). All (λ n. n ≤ max_upvalues) p.children) ps → Within max_diagnostics v → Within max_diagnostics (walk_from incoming row v (map proto_steps ps))
 unfolding walk_from
 walk_within incoming row [] v h k = k
 walk_within incoming row (p ∷ ps) v (all_cons h hs) k = walk_within incoming (suc row) ps (walk_row incoming row v (proto_steps p)) hs (row_within incoming row p v h k)
 
 -- an accepted image
-pub at_most : (i : Image) → image_refusal i.table i.words ≡ none → length (diagnostics i) ≤ most_diagnostics
+pub at_most : (i : Image) → image_refusal i.table i.words ≡ none → length (diagnostics i) ≤ max_diagnostics
 unfolding diagnostics image_walk image_protos protos walk
 at_most i a =
     let kept = image_kept i.table i.words a in
-    let few = children_most 255 (rows i.table) (u32s i.words) (all_imp (λ r h. h.upvalues) kept.fields) in
+    let few = children_most max_upvalues (rows i.table) (u32s i.words) (all_imp (λ r h. h.upvalues) kept.fields) in
     (walk_within (i.warnings + i.errors) 0 (image_protos i) start few (record { most = omega arith; while_going = λ _. omega arith })).most

@@ -12,30 +12,31 @@ use lib.ListN.{length, get_or, take, replicate, length-append, length-map, lengt
 use lib.Seq.{take_all, get_or_at, get_or-append-add}
 use Rattle.base.specs.Lists.{All, all_nil, all_cons, only, up_from, tabulate}
 use Rattle.opcodes.specs.Words.{is, B, C}
-use Rattle.roles_spec.specs.Table.{Proto}
+use Rattle.roles_spec.specs.Table.{Proto, row_bytes}
 use Rattle.roles_spec.specs.Roles.{Role, Instruction, ClosureBinding, binding_count, has_extra, claims, roles_from, roles, role_at, word_at, executable_at, Executable, owned, existing, companions, is_truncated, binding_words}
 use Rattle.validator_spec.specs.Operands.{is_unknown, is_binding, is_jump, is_skip, is_loadbool_skip, constant_bx, upvalue_b, flag_a, register_a, span_ends, register_in, constant_in, child_bx, captured_register, captured_upvalue}
 use Rattle.validator_spec.specs.Diagnostics.{Diagnostic, truncation_at, opcode_diagnostics, jump_diagnostics, skip_diagnostics, not_below, operand_diagnostics, binding_diagnostics, known_diagnostics, word_diagnostics, diagnostics_at}
 use Rattle.validator_spec.specs.Diagnostics.{Step, tested_step, untested_step, has_large_stack, stack_diagnostics, proto_steps}
-use Rattle.validator_spec.specs.Walk.{in_row, Walk, max_diagnostics, most_diagnostics, count_n, start, advance, walk_row, walk_from, walk}
+use Rattle.validator_spec.specs.Walk.{in_row, Walk, diagnostic_limit, max_diagnostics, count_n, start, advance, walk_row, walk_from, walk}
 use Rattle.validator_spec.proofs.VerdictLaws.{advance_going}
 use Rattle.validator_spec.proofs.TreeLaws.{Begins, begins, advance_ended, proto_begins}
 use Rattle.base.specs.Bytes.{u32_from, u32_bytes, u32_record}
 use Rattle.roles_spec.specs.Table.{row_at, rows, below, children, proto_of, protos_of, protos}
 use mathlib.Core.Option.{none}
 use Rattle.roles_spec.specs.Refusals.{refuse_if, or_else, depth_fits, bad_depth, fields_fit, bad_field, word_total, image_refusal}
+use Rattle.roles_spec.specs.Samples.{row, plain_row, plain_proto}
 use Rattle.validator_spec.specs.Image.{Image, image_protos, image_walk, diagnostics}
 use Rattle.base.proofs.ByteLaws.{length_u32_record, u32s_record}
 use Rattle.base.proofs.AllLaws.{all_append, all_up_from, all_up_to, flat_map_none}
 use Rattle.base.proofs.ListLaws.{length_up_from, length_tabulate}
-use Rattle.base.proofs.TestLaws.{t_true, by_cond}
+use Rattle.base.proofs.BoolLaws.{t_true, by_cond}
 use Rattle.roles_spec.proofs.RoleLaws.{role_executable, executable, owned_count}
 
 -- a word of an unknown opcode
 abbrev junk : ℕ
 junk = 63
 
--- a walk that goes on and has found so many
+-- a walk that goes on and has found n diagnostics
 record Reached (n : ℕ) (v : Walk) : Type 0 where
   going : v.ended ≡ false
   count : length v.found ≡ n
@@ -45,7 +46,7 @@ unfoldable pub full_code : ℕ → ℕ → List ℕ
 full_code n m = replicate n 63 ++ 36 ∷ replicate m 63
 
 unfoldable pub full_proto : ℕ → ℕ → Proto
-full_proto n m = record { code = full_code n m; constants = 0; upvalues = 0; stack = 0; children = m ∷ [] }
+full_proto n m = plain_proto (full_code n m) 0 0 (m ∷ [])
 
 length_code : (n m : ℕ) → length (full_code n m) ≡ n + suc m
 unfolding full_code
@@ -98,9 +99,9 @@ one_after : (n m j : ℕ) → j < m → length (binding_diagnostics (full_proto 
 unfolding binding_diagnostics is_binding captured_register captured_upvalue not_below is only flatten
 one_after n m j h = rw (word_after n m j h)
 
-binding_words_lem : (n m : ℕ) → binding_words (full_proto n m) n ≡ m
+full_binding_words : (n m : ℕ) → binding_words (full_proto n m) n ≡ m
 unfolding binding_words existing binding_count is full_proto
-binding_words_lem n m =
+full_binding_words n m =
     rw (t_true (executable_at (full_proto n m) n) (executable_there n m n (omega arith)), word_there n m) (omega (arith, length_code n m))
 
 -- ones, end to end
@@ -114,8 +115,8 @@ unfolding known_diagnostics jump_diagnostics is_jump skip_diagnostics is_skip is
 closure_there n m =
     let p = full_proto n m in
     let bound = up_from (n + 1) (binding_words p n) in
-    let ones : All (λ pc. length (binding_diagnostics p pc) ≡ 1) bound = all_up_from (n + 1) (binding_words p n) (λ j h. one_after n m j (omega (arith, binding_words_lem n m))) in
-    ap suc (ap length (append-nil (flat_map (binding_diagnostics p) bound)) ∙ flat_map_ones (binding_diagnostics p) ones ∙ length_up_from (n + 1) (binding_words p n) ∙ binding_words_lem n m)
+    let ones : All (λ pc. length (binding_diagnostics p pc) ≡ 1) bound = all_up_from (n + 1) (binding_words p n) (λ j h. one_after n m j (omega (arith, full_binding_words n m))) in
+    ap suc (ap length (append-nil (flat_map (binding_diagnostics p) bound)) ∙ flat_map_ones (binding_diagnostics p) ones ∙ length_up_from (n + 1) (binding_words p n) ∙ full_binding_words n m)
 
 many_there : (n m : ℕ) → length (diagnostics_at (full_proto n m) n) ≡ suc m
 unfolding diagnostics_at word_diagnostics opcode_diagnostics is_unknown only
@@ -158,13 +159,13 @@ reached_as : {n m : ℕ} {v : Walk} → n ≡ m → Reached n v → Reached m v
 reached_as e r = record { going = r.going; count = r.count ∙ e }
 
 -- a step below the limit
-step_reached : (row n : ℕ) (v : Walk) (s : Step) → Reached n v → n < max_diagnostics → Reached (n + length s.adds) (advance 0 row v s)
+step_reached : (row n : ℕ) (v : Walk) (s : Step) → Reached n v → n < diagnostic_limit → Reached (n + length s.adds) (advance 0 row v s)
 step_reached row n v s r h =
     subst⁻¹ (Reached (n + length s.adds)) (advance_going 0 row v s r.going (omega (arith, r.count)))
     (record { going = refl; count = length-append v.found (map (in_row row) s.adds) ∙ omega (arith, r.count, length-map s.adds (in_row row)) })
 
 -- tested steps of one diagnostic each, up to the limit
-ones_reached : (row n : ℕ) (f : ℕ → List Diagnostic) (xs : List ℕ) (v : Walk) → All (λ x. length (f x) ≡ 1) xs → Reached n v → n + length xs ≤ max_diagnostics
+ones_reached : (row n : ℕ) (f : ℕ → List Diagnostic) (xs : List ℕ) (v : Walk) → All (λ x. length (f x) ≡ 1) xs → Reached n v → n + length xs ≤ diagnostic_limit
     → Reached (n + length xs) (foldl (advance 0 row) v (map (λ x. tested_step (f x)) xs))
 unfolding tested_step
 ones_reached row n f [] v all_nil r l = reached_as (omega arith) r
@@ -174,16 +175,16 @@ ones_reached row n f (x ∷ xs) v (all_cons h hs) r l =
 
 -- once N has reached the limit, tested steps add nothing
 record Full (n : ℕ) (v : Walk) : Type 0 where
-  limit : max_diagnostics ≤ n
+  limit : diagnostic_limit ≤ n
   count : length v.found ≡ n
 
 full_stays : (row n : ℕ) (v : Walk) (ds : List Diagnostic) → Full n v → Full n (advance 0 row v (tested_step ds)) × ((advance 0 row v (tested_step ds)).ended ≡ true)
 unfolding advance tested_step
-full_stays row n v ds k = rw (le-leb max_diagnostics (count_n 0 v) (omega (arith, k.limit, k.count)), or-true) (record { limit = k.limit; count = k.count }, refl)
+full_stays row n v ds k = rw (le-leb diagnostic_limit (count_n 0 v) (omega (arith, k.limit, k.count)), or-true) (record { limit = k.limit; count = k.count }, refl)
 
-full_words_lem : (row n : ℕ) (f : ℕ → List Diagnostic) (xs : List ℕ) (v : Walk) → Full n v → Full n (foldl (advance 0 row) v (map (λ x. tested_step (f x)) xs))
-full_words_lem row n f [] v k = k
-full_words_lem row n f (x ∷ xs) v k = full_words_lem row n f xs (advance 0 row v (tested_step (f x))) (full_stays row n v (f x) k).0
+full_word_steps : (row n : ℕ) (f : ℕ → List Diagnostic) (xs : List ℕ) (v : Walk) → Full n v → Full n (foldl (advance 0 row) v (map (λ x. tested_step (f x)) xs))
+full_word_steps row n f [] v k = k
+full_word_steps row n f (x ∷ xs) v k = full_word_steps row n f xs (advance 0 row v (tested_step (f x))) (full_stays row n v (f x) k).0
 
 ended_stays : (row : ℕ) (steps : List Step) (v : Walk) → v.ended ≡ true → foldl (advance 0 row) v steps ≡ v
 ended_stays row [] v e = refl
@@ -225,12 +226,12 @@ proto_full n m e =
     let b : Reached n before = reached_as (zero-add (length (up_from 0 n)) ∙ length_up_from 0 n) (ones_reached 0 0 f (up_from 0 n) first (all_up_to (λ pc. length (f pc) ≡ 1) n (λ pc h. one_before n m pc h)) a (omega (arith, length_up_from 0 n))) in
     let c = step_reached 0 n before (tested_step (f n)) b (omega arith) in
     let d : Full (n + suc m) (advance 0 0 before (tested_step (f n))) = record { limit = omega arith; count = c.count ∙ ap (λ (k : ℕ). n + k) (many_there n m) } in
-    rw (full_steps n m, foldl-append (advance 0 0)) (full_words_lem 0 (n + suc m) f (up_from (suc n) m) (advance 0 0 before (tested_step (f n))) d)
+    rw (full_steps n m, foldl-append (advance 0 0)) (full_word_steps 0 (n + suc m) f (up_from (suc n) m) (advance 0 0 before (tested_step (f n))) d)
 
 -- ---- the image: row 0 with these words, and its child, without words
 
 unfoldable pub full_table : List ℕ
-full_table = u32_record (0 ∷ 10255 ∷ 0 ∷ 0 ∷ 0 ∷ 1 ∷ 0 ∷ 0 ∷ 255 ∷ 0 ∷ [])
+full_table = u32_record (row 0 10255 0 0 0 ++ row 1 0 0 255 0)
 
 unfoldable pub full_words : List ℕ
 full_words = u32_record (full_code 9999 255)
@@ -238,7 +239,7 @@ full_words = u32_record (full_code 9999 255)
 unfoldable pub fullest : Image
 fullest = record { table = full_table; words = full_words; warnings = 0; errors = 0 }
 
-length_table : length full_table ≡ 40
+length_table : length full_table ≡ 2 * row_bytes
 unfolding full_table u32_record u32_bytes flat_map
 length_table = refl
 
@@ -247,7 +248,7 @@ unfolding full_words
 length_words = length_u32_record (full_code 9999 255) ∙ ap (λ (n : ℕ). 4 * n) (length_code 9999 255)
 
 full_rows : rows full_table
-    ≡ record { row = 0; depth = 0; words = 10255; constants = 0; upvalues = 0; stack = 0 } ∷ record { row = 1; depth = 1; words = 0; constants = 0; upvalues = 255; stack = 0 } ∷ []
+    ≡ plain_row 0 0 10255 0 ∷ plain_row 1 1 0 255 ∷ []
 unfolding full_table rows row_at u32_from u32_record u32_bytes flat_map
 full_rows = refl
 
@@ -263,15 +264,15 @@ words_small : (n m : ℕ) → All (λ w. w < 2 ^ 32) (full_code n m)
 unfolding full_code
 words_small n m = all_append (junk_small n) (all_cons {x = 36} (omega arith) (junk_small m))
 
-fullest_protos : image_protos fullest ≡ full_proto 9999 255 ∷ record { code = []; constants = 0; upvalues = 255; stack = 0; children = [] } ∷ []
+fullest_protos : image_protos fullest ≡ full_proto 9999 255 ∷ plain_proto [] 255 0 [] ∷ []
 unfolding image_protos protos protos_of proto_of children below fullest full_proto full_words
 fullest_protos =
     let all : take 10255 (full_code 9999 255) ≡ full_code 9999 255 = take_all 10255 (full_code 9999 255) (omega (arith, length_code 9999 255)) in
     rw (full_rows, u32s_record (full_code 9999 255) (words_small 9999 255), all)
 
-pub fullest_count : length (diagnostics fullest) ≡ most_diagnostics
+pub fullest_count : length (diagnostics fullest) ≡ max_diagnostics
 unfolding diagnostics image_walk walk walk_from fullest
 fullest_count =
-    let second : Proto = record { code = []; constants = 0; upvalues = 255; stack = 0; children = [] } in
-    subst⁻¹ (λ (ps : List Proto). length (walk_from 0 0 start (map proto_steps ps)).found ≡ 10255) fullest_protos
+    let second : Proto = plain_proto [] 255 0 [] in
+    subst⁻¹ (λ (ps : List Proto). length (walk_from 0 0 start (map proto_steps ps)).found ≡ max_diagnostics) fullest_protos
     (full_row 1 10255 (walk_row 0 0 start (proto_steps (full_proto 9999 255))) (proto_begins second) (proto_full 9999 255 refl)).count

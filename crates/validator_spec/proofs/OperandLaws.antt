@@ -1,4 +1,4 @@
--- Operands in range, against the table of diagnostics: they are where the word has no diagnostic of an operand's code. Assumes nothing.
+-- Operands against the table of diagnostics: they are in range exactly where the word has no diagnostic of an operand's code. Assumes nothing.
 use Prim.Native.Nat.{ℕ, ◌+◌}
 use mathlib.Core.Path.{◌≡◌, refl, sym, subst}
 use mathlib.Core.Logic.{◌↔◌}
@@ -9,14 +9,14 @@ use lib.ListN.{length}
 use lib.IntN.{ℤ, pos, negsuc}
 use Rattle.base.specs.Lists.{All, all_nil, all_cons, elem, only, select, keep_if}
 use Rattle.base.proofs.AllLaws.{all_of, all_map, all_head, all_tail, all_flatten, flatten_all, all_flat_map, flat_map_all, all_up_from, up_from_all}
-use Rattle.base.proofs.TestLaws.{by_cond}
+use Rattle.base.proofs.BoolLaws.{by_cond}
 use Rattle.roles_spec.specs.Table.{Proto}
 use Rattle.roles_spec.specs.Roles.{is_executable, role_at, word_at, binding_words}
 use Rattle.validator_spec.specs.Operands.{is_binding, is_jump, target, is_skip, skip_target, flag_a, captured_register, captured_upvalue}
 use Rattle.validator_spec.specs.Diagnostics.{Diagnostic, diagnostic, not_below, target_diagnostics, jump_diagnostics, skip_diagnostics, opcode_value, binding_diagnostics, operand_diagnostics, known_diagnostics}
 use Rattle.validator_spec.specs.Rules.{Below, registers_of, constants_of, CapturesInRange, OperandsInRange}
 use Rattle.validator_spec.specs.Statements.{operand_codes, OfNoOperand}
-use Rattle.validator_spec.proofs.RuleLaws.{below_none}
+use Rattle.validator_spec.proofs.RuleDiagnosticLaws.{below_none}
 
 -- ---- one limit
 
@@ -31,7 +31,7 @@ below_of pc code limit (v ∷ vs) t k = go (leb limit v) refl (below_of pc code 
     go true q rest h = absurd (T_not (elem code operand_codes) (all_head h) t)
     go false q rest h = all_cons (nleb→lt limit v (subst (λ (b : Bool). T (not b)) (sym q) tt)) (rest h)
 
--- values below it have none
+-- values below the limit have no diagnostic
 of_below : (pc code limit : ℕ) (vs : List ℕ) → T (not (eqb code 3)) → Below limit vs → All OfNoOperand (not_below pc code limit vs)
 of_below pc code limit vs e k = subst (λ (ds : List Diagnostic). All OfNoOperand ds) (sym (below_none pc code limit vs e k)) all_nil
 

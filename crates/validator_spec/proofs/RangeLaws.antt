@@ -1,4 +1,4 @@
--- Every diagnostic of an accepted image is one that four i32 hold: its row is one of the table's, its code is 1 to 17. Assumes nothing.
+-- Every diagnostic of an accepted image is one that four i32 hold: its row is one of the table's, its code is one of the document's. Assumes nothing.
 use Prim.Native.Nat.{ℕ, suc, ◌+◌, ◌-◌, ◌^◌, ◌≤◌, ◌<◌, min}
 use native.Mathlib.Omega.{arith}
 use mathlib.Core.Path.{◌≡◌, refl, subst}
@@ -9,15 +9,15 @@ use lib.Dec.{T, leb, ltb, leb→le}
 use lib.ListN.{length, get_or, drop, length-append, length-map, length-take, length-drop}
 use lib.IntN.{ℤ, pos, negsuc, sub_ℕ, ◌+ℤ◌}
 use Rattle.base.specs.Lists.{All, all_nil, all_cons, only, up_from, tabulate}
-use Rattle.opcodes.specs.Words.{Field, B, C, opcode, operand, field_a, field_bx, is, is_constant, constant_index, CLOSURE}
+use Rattle.opcodes.specs.Words.{Field, B, C, opcode, operand, field_a, field_bx, is, is_constant, constant_index, CLOSURE, offset_sbx}
 use Rattle.base.specs.Bytes.{u32s, i32_bits}
 use Rattle.roles_spec.specs.Table.{Row, rows, Proto, proto_of, protos_of, protos}
 use Rattle.roles_spec.specs.Roles.{ClosureBinding, SetlistExtra, executable_at, word_at, binding_count, has_extra, claims, owned, existing, binding_words}
 use Rattle.roles_spec.specs.Refusals.{image_refusal, roles_refusal}
 use Rattle.roles_spec.specs.Calls.{accepted}
 use Rattle.validator_spec.specs.Operands.{is_unknown, is_jump, target, skip_target, constant_bx, upvalue_b, flag_a, register_a, span_ends, register_in, constant_in, child_bx, captured_register, captured_upvalue}
-use Rattle.validator_spec.specs.Diagnostics.{Diagnostic, diagnostic, truncation_at, stack_diagnostics, opcode_diagnostics, target_diagnostics, jump_diagnostics, skip_diagnostics, not_below, operand_diagnostics, opcode_value, binding_diagnostics, known_diagnostics, word_diagnostics, diagnostics_at, Step, tested_step, untested_step, proto_steps}
-use Rattle.validator_spec.specs.Walk.{RowDiagnostic, in_row, max_diagnostics, Walk, start, count_n, advance, walk_row, walk_from, walk, diagnostic_fields}
+use Rattle.validator_spec.specs.Diagnostics.{Diagnostic, diagnostic, truncation_at, stack_diagnostics, opcode_diagnostics, target_diagnostics, jump_diagnostics, skip_diagnostics, not_below, operand_diagnostics, opcode_value, binding_diagnostics, known_diagnostics, word_diagnostics, diagnostics_at, Step, tested_step, untested_step, proto_steps, code_count}
+use Rattle.validator_spec.specs.Walk.{RowDiagnostic, in_row, diagnostic_limit, Walk, start, count_n, advance, walk_row, walk_from, walk, diagnostic_fields}
 use Rattle.validator_spec.specs.Image.{Image, image_protos, image_walk, diagnostics}
 use Rattle.validator_spec.specs.Check.{Checked, checked, check_refusal, check_answer}
 use Rattle.validator_spec.specs.Rules.{Below}
@@ -25,7 +25,7 @@ use Rattle.base.proofs.AllLaws.{all_append, all_get_d, all_head, all_flatten, al
 use Rattle.base.proofs.ByteLaws.{length_u32s}
 use Rattle.opcodes.proofs.FieldLaws.{field_below, operand_below}
 use Rattle.base.proofs.ListLaws.{length_tabulate}
-use Rattle.base.proofs.TestLaws.{t_and, by_cond}
+use Rattle.base.proofs.BoolLaws.{t_and, by_cond}
 use Rattle.roles_spec.proofs.RefusalLaws.{FieldsKept, or_else_none, image_kept}
 use Rattle.roles_spec.proofs.TableLaws.{length_protos_of, children_most}
 use Rattle.roles_spec.proofs.AcceptedCallLaws.{accepted_none}
@@ -33,17 +33,17 @@ use Rattle.validator_spec.proofs.LimitLaws.{only_most}
 
 -- ---- numbers that an i32 holds
 
--- from -2 ^ 31 to 2 ^ 31 - 1
+-- a number from -2 ^ 31 to 2 ^ 31 - 1
 abbrev pub Signed32 : ℤ → Type 0
 Signed32 (pos n) = n < 2 ^ 31
 Signed32 (negsuc n) = n < 2 ^ 31
 
--- the bits of one that is not negative are the number itself
+-- the bits of a number that is not negative are the number itself
 pub signed_bits_pos : (n : ℕ) → Signed32 (pos n) → (i32_bits (pos n) ≡ n) × (i32_bits (pos n) < 2 ^ 31)
 unfolding i32_bits
 signed_bits_pos n h = (refl, h)
 
--- those of a negative one are 2 ^ 32 more than it, and the highest bit is set
+-- the bits of a negative number are 2 ^ 32 more than it, and the highest bit is set
 pub signed_bits_negsuc : (n : ℕ) → Signed32 (negsuc n) → (i32_bits (negsuc n) ≡ 2 ^ 32 - suc n) × (2 ^ 31 ≤ i32_bits (negsuc n)) × (i32_bits (negsuc n) < 2 ^ 32)
 unfolding i32_bits
 signed_bits_negsuc n h = (refl, omega arith, omega arith)
@@ -59,22 +59,22 @@ sub_signed a b h k = by_cond Signed32 (ltb a b) (negsuc (b - suc a)) (pos (a - b
 
 -- ---- diagnostics
 
--- pc and value are numbers that an i32 holds, and the code is one of the 17
+-- an i32 holds pc and value, and the code is one of the table's
 pub record Held (d : Diagnostic) : Type 0 where
   pub pc : Signed32 d.pc
-  pub code : (1 ≤ d.code) × (d.code ≤ 17)
+  pub code : (1 ≤ d.code) × (d.code ≤ code_count)
   pub value : Signed32 d.value
 
--- that, and the row is one of so many
+-- such a diagnostic, with a row that is one of `count` rows
 pub record InRange (count : ℕ) (d : RowDiagnostic) : Type 0 where
   pub row : d.row < count
   pub held : Held d.diagnostic
 
 -- at a word: `T` computes at each code
-held : (pc code : ℕ) (z : ℤ) → pc < 2 ^ 31 → T (leb 1 code && leb code 17) → Signed32 z → Held (diagnostic pc code z)
+held : (pc code : ℕ) (z : ℤ) → pc < 2 ^ 31 → T (leb 1 code && leb code code_count) → Signed32 z → Held (diagnostic pc code z)
 held pc code z h t s =
-    let k = t_and (leb 1 code) (leb code 17) t in
-    record { pc = h; code = (leb→le 1 code k.0, leb→le code 17 k.1); value = s }
+    let k = t_and (leb 1 code) (leb code code_count) t in
+    record { pc = h; code = (leb→le 1 code k.0, leb→le code code_count k.1); value = s }
 
 all_only : {A : Type 0} {P : A → Type 0} (b : Bool) (x : A) → P x → All P (only b x)
 unfolding only
@@ -85,7 +85,7 @@ all_if : (b : Bool) {ds : List Diagnostic} → All Held ds → All Held (cond b 
 all_if true h = h
 all_if false h = all_nil
 
--- lists of them, one after the other
+-- lists of such diagnostics, one after the other
 infixr 20 ◌and◌
 ◌and◌ : {ds : List Diagnostic} {L : List (List Diagnostic)} → All Held ds → All (All Held) L → All (All Held) (ds ∷ L)
 h and t = all_cons h t
@@ -104,7 +104,7 @@ small_a b w = all_only b (field_a w) (omega (arith, field_below 6 8 w))
 small_operand : (f : Field) (b : Bool) (w : ℕ) → Small (only b (operand f w))
 small_operand f b w = all_only b (operand f w) (omega (arith, operand_below f w))
 
--- those of a field, as a register and as a constant
+-- the operands of a field, as a register and as a constant
 small_register : (f : Field) (w : ℕ) → Small (register_in f w)
 unfolding register_in
 small_register f w = small_operand f _ w
@@ -132,7 +132,7 @@ small_spans w =
     (all_cons (all_only _ _ (omega arith)) all_nil))))))))
 
 -- the diagnostics of some operands
-held_below : (pc code limit : ℕ) {vs : List ℕ} → pc < 2 ^ 31 → T (leb 1 code && leb code 17) → Small vs → All Held (not_below pc code limit vs)
+held_below : (pc code limit : ℕ) {vs : List ℕ} → pc < 2 ^ 31 → T (leb 1 code && leb code code_count) → Small vs → All Held (not_below pc code limit vs)
 unfolding not_below
 held_below pc code limit h t s = all_map Held (λ v. diagnostic pc code (pos v)) (all_imp (λ v l. held pc code (pos v) h t l) (all_select (λ v. leb limit v) s))
 
@@ -159,8 +159,8 @@ held_operands p pc w h =
 signed_target : (pc w : ℕ) → pc < 2 ^ 30 → Signed32 (target pc w)
 unfolding target
 signed_target pc w h =
-    by_cond (λ z. Signed32 (pos (pc + 1) +ℤ z)) (ltb (field_bx w) 131071) (negsuc (131071 - suc (field_bx w))) (pos (field_bx w - 131071))
-    (λ _. sub_signed (pc + 1) (suc (131071 - suc (field_bx w))) (omega arith) (omega arith))
+    by_cond (λ z. Signed32 (pos (pc + 1) +ℤ z)) (ltb (field_bx w) offset_sbx) (negsuc (offset_sbx - suc (field_bx w))) (pos (field_bx w - offset_sbx))
+    (λ _. sub_signed (pc + 1) (suc (offset_sbx - suc (field_bx w))) (omega arith) (omega arith))
     (λ _. omega (arith, field_below 14 18 w))
 
 held_target : (p : Proto) (pc : ℕ) (z : ℤ) → pc < 2 ^ 31 → Signed32 z → All Held (target_diagnostics p pc z)
@@ -216,7 +216,7 @@ held_word p pc l h =
 
 -- ---- a prototype
 
--- one of which words, stack and the children's upvalues are few enough. Nothing is asked of its words, its constants and its own upvalues
+-- a prototype with few enough words, registers and upvalues of each child. Nothing is asked of its constants, its own upvalues and what its words are
 pub record Few (p : Proto) : Type 0 where
   pub code : length p.code ≤ 2 ^ 30
   pub stack : p.stack ≤ 2 ^ 30
@@ -277,7 +277,7 @@ FoundIn count v = All (InRange count) v.found
 advance_found : (incoming count row : ℕ) (v : Walk) (s : Step) → row < count → FoundIn count v → HeldStep s → FoundIn count (advance incoming row v s)
 unfolding advance
 advance_found incoming count row v s l h k =
-    by_cond (FoundIn count) (v.ended || s.tested && leb max_diagnostics (count_n incoming v)) _ _
+    by_cond (FoundIn count) (v.ended || s.tested && leb diagnostic_limit (count_n incoming v)) _ _
     (λ _. h)
     (λ _. all_append h (all_map (InRange count) (in_row row) (all_imp (λ d r. record { row = l; held = r }) k)))
 
@@ -330,7 +330,7 @@ diagnostics_held i e =
     let few = (image_kept i.table i.words e).row_limit in
     all_imp (λ d r. record { row = omega (arith, r.row); held = r.held }) (diagnostics_in_range i e)
 
--- and those of an accepted check call
+-- the diagnostics of an accepted check call
 pub check_held : (i : Image) (role_length diagnostics_length : ℕ) (c : Checked) → check_answer i role_length diagnostics_length ≡ accepted c → All (InRange (2 ^ 31)) (diagnostics i)
 unfolding check_answer check_refusal roles_refusal
 check_held i role_length diagnostics_length c e =

@@ -4,7 +4,7 @@ use native.Mathlib.Omega.{arith}
 use mathlib.Core.Path.{sym, ◌∙◌, ap, subst}
 use borrow.Author.Tests.{lt-ltb}
 use Rattle.opcodes.specs.Words.{is, opcode, operand, C, JMP, FORPREP, FORLOOP, RETURN, TAILCALL, EQ, LT, LE, TEST, TESTSET, LOADBOOL, TFORLOOP, CLOSURE, SETLIST}
-use Rattle.base.proofs.TestLaws.{t_true, t_false, t_and, or_false, true≢false, by_cond, subset}
+use Rattle.base.proofs.BoolLaws.{t_true, t_false, t_and, or_false, true≢false, by_cond, subset}
 use Rattle.opcodes.proofs.OpcodeTestLaws.{is_not, is_among}
 use Rattle.roles_spec.specs.Table.{Proto}
 use Rattle.roles_spec.specs.Roles.{word_at, owned, existing, companions}
@@ -41,7 +41,7 @@ owner_goes p pc choice t =
     let owners = CLOSURE ∷ SETLIST ∷ [] in
     rw (is_not w owners (JMP ∷ FORPREP ∷ []) tt t, is_not w owners (FORLOOP ∷ []) tt t, is_not w owners (LOADBOOL ∷ []) tt t, is_not w owners conditional_skips tt t, is_not w owners (RETURN ∷ []) tt t, is_not w owners (TAILCALL ∷ []) tt t)
 
--- none of these opcodes, so none of those
+-- a word of none of these opcodes has none of those, which are among them
 is_no : (w : ℕ) (these those : List ℕ) → T (subset those these) → is w these ≡ false → is w those ≡ false
 is_no w these those s e = go (is w those) refl
   where
@@ -134,7 +134,7 @@ left_meets_no_more p (at pc) [] ys n = absurd (n tt)
 left_meets_no_more p (left e) (x ∷ xs) ys n = refl
 left_meets_no_more p (at pc) (x ∷ xs) ys n = ap (meet pc) (left_meets_no_more p (next p pc x) xs ys n)
 
--- A run is at a word, or it has left. (As a state alone, `left out_of_choices` is neither; no run comes to it)
+-- A run is at a word, or it has left. (The state `left out_of_choices` is neither, but no run comes to it)
 abbrev Stands : State → Type 0
 Stands (at pc) = Unit {0}
 Stands (left e) = GaveOut e → ⊥
@@ -158,7 +158,7 @@ next_stands p pc choice =
     (λ _. by_cond Stands (is w (TAILCALL ∷ [])) _ _ (λ _. by_cond Stands choice _ _ (λ _. ended) (λ _. on _))
     (λ _. on _))))))
 
--- such a run met a word for each choice and then the one that it stands at; with more choices it meets, after the same words, what a run from there meets
+-- such a run met a word for each choice, and then the word at which it stands; with more choices it meets these, and then what a run from there meets
 pub record GoesOnFrom (p : Proto) (s : State) (choices : List Bool) : Type 0 where
   pub before : List ℕ
   pub each : length before ≡ length choices

@@ -20,7 +20,7 @@ use Rattle.roles_spec.specs.Refusals.{Refused, image_refusal, word_total}
 use Rattle.roles_spec.specs.Calls.{accepted, refused, roles_answer, roles_after, image_bindings, bindings_refusal, bindings_answer, bindings_after}
 use Rattle.validator_spec.specs.Operands.{is_unknown, target, is_loadbool_skip, conditional_skips, constant_bx, upvalue_b, flag_a, flag_limit, register_a, span_ends, register_in, constant_in, child_bx}
 use Rattle.validator_spec.specs.Diagnostics.{Step, tested_step, proto_steps, truncation_at, opcode_diagnostics, jump_diagnostics, skip_diagnostics, not_below, binding_diagnostics, known_diagnostics, diagnostics_at}
-use Rattle.validator_spec.specs.Walk.{Walk, in_row, diagnostic_fields, diagnostic_bytes, count_n, advance, max_diagnostics, most_diagnostics, ValidForParser, Invalid}
+use Rattle.validator_spec.specs.Walk.{Walk, in_row, diagnostic_fields, diagnostic_bytes, count_n, advance, diagnostic_limit, max_diagnostics, ValidForParser, Invalid}
 use Rattle.validator_spec.specs.Image.{Image, image_protos, image_walk, diagnostics, verdict}
 use Rattle.validator_spec.specs.Check.{Checked, check_answer, diagnostics_after}
 use Rattle.validator_spec.specs.Rules.{Below, registers_of, constants_of, JumpKept, BindingKept, OperandsInRange, WellFormed}
@@ -32,7 +32,7 @@ use Rattle.roles_spec.proofs.RefusalLaws.{or_else_none}
 use Rattle.roles_spec.proofs.AcceptedCallLaws.{accepted_none, accepted_result, roles_written, bindings_written}
 use Rattle.roles_spec.proofs.RefusedCallLaws.{roles_untouched}
 use Rattle.roles_spec.proofs.RoleLaws.{owned_role, companion_unread, roles_by_children}
-use Rattle.validator_spec.proofs.RuleLaws.{well_formed_iff_none, truncated_by_codes, opcode_by_code, jump_by_codes, constant_by_codes, upvalue_by_code, flag_by_code, register_by_codes, proto_by_code, binding_by_codes}
+use Rattle.validator_spec.proofs.RuleDiagnosticLaws.{well_formed_iff_none, truncated_by_codes, opcode_by_code, jump_by_codes, constant_by_codes, upvalue_by_code, flag_by_code, register_by_codes, proto_by_code, binding_by_codes}
 use Rattle.validator_spec.proofs.ExecutionLaws.{runs_safe}
 use Rattle.validator_spec.proofs.RunLaws.{one_way, jump_goes, loop_goes, skip_goes, loadbool_goes, owner_goes, return_ends, tailcall_goes, other_goes, ends_there, goes_past, starts_at_0, empty_meets_none, goes_on_from, left_meets_no_more}
 use Rattle.validator_spec.proofs.OperandLaws.{operands_by_codes}
@@ -50,7 +50,7 @@ use Rattle.validator_spec.proofs.ExampleLaws.{examples_hold, misreadings_exclude
 pub rules_are_the_conditions : (p : Proto) → WellFormed p ↔ ((pc : ℕ) → pc < length p.code → (truncation_at p pc ≡ []) × (diagnostics_at p pc ≡ []))
 rules_are_the_conditions p = well_formed_iff_none p
 
--- and each rule is that the diagnostics of its codes are not there, one by one
+-- rule by rule: a rule is kept exactly where there are no diagnostics of its codes
 
 -- "truncated 1, 2"
 pub truncated_is_1_2 : (p : Proto) (pc : ℕ) → T (not (is_truncated p pc)) ↔ (truncation_at p pc ≡ [])
@@ -96,7 +96,7 @@ binding_is_17_12_8 p pc = binding_by_codes p pc
 pub well_formed_runs_safely : (p : Proto) → WellFormed p → (choices : List Bool) → SafeRun p choices
 well_formed_runs_safely p k choices = runs_safe p k choices
 
--- that is, read out: each word that it meets is executable and has its operands in range; and it leaves only at RETURN, TAILCALL or past the last word
+-- read out: each word that the run meets is executable and has its operands in range; it leaves only at RETURN, TAILCALL or past the last word
 pub safe_run_meets : (p : Proto) (choices : List Bool) → SafeRun p choices → All (λ pc. Executable p pc × OperandsInRange p pc) (run p choices).met
 unfolding SafeRun
 safe_run_meets p choices s = all_imp (λ pc m. (m.executable, m.operands)) s.met
@@ -119,7 +119,7 @@ pub run_starts_at_0 : (p : Proto) (choices : List Bool) → run p choices ≡ ru
 unfolding run
 run_starts_at_0 p choices = refl
 
--- it comes to a word, or "to a place without a word": "past the last word is any place not below the word count"
+-- a run comes to a word, or "to a place without a word": "past the last word is any place not below the word count"
 pub comes_to_a_word : (p : Proto) (n : ℕ) → n < length p.code → arrive p (pos n) ≡ at n
 unfolding arrive
 comes_to_a_word p n h = rw (lt-ltb n (length p.code) h)
@@ -223,7 +223,7 @@ valid_means_passed i v = all_imp (λ p k. record { well_formed = k; runs = runs_
 -- ---- c. with no incoming error, and incoming warnings plus prototypes with stack above 250 below 10,000: ValidForParser exactly when every prototype
 -- keeps the rules
 
-pub valid_iff_well_formed : (i : Image) → i.errors ≡ 0 → i.warnings + large_stacks (image_protos i) < max_diagnostics → (verdict i ≡ ValidForParser) ↔ All WellFormed (image_protos i)
+pub valid_iff_well_formed : (i : Image) → i.errors ≡ 0 → i.warnings + large_stacks (image_protos i) < diagnostic_limit → (verdict i ≡ ValidForParser) ↔ All WellFormed (image_protos i)
 valid_iff_well_formed i clean few = (valid_well_formed i, well_formed_valid i clean few)
 
 -- ---- d. Invalid exactly when an error came in or a diagnostic other than code 3 was found
@@ -233,12 +233,12 @@ invalid_iff_error i = invalid_iff i
 
 -- ---- e. an image that no refusal from 1 to 6 meets has at most 10,255 diagnostics; and one of them has that many, with nothing that came in
 
-pub diagnostics_at_most : (i : Image) → image_refusal i.table i.words ≡ none → length (diagnostics i) ≤ most_diagnostics
+pub diagnostics_at_most : (i : Image) → image_refusal i.table i.words ≡ none → length (diagnostics i) ≤ max_diagnostics
 diagnostics_at_most i a = at_most i a
 
-pub most_diagnostics_reached : (image_refusal fullest.table fullest.words ≡ none) × (fullest.warnings ≡ 0) × (fullest.errors ≡ 0) × (length (diagnostics fullest) ≡ most_diagnostics)
+pub max_diagnostics_reached : (image_refusal fullest.table fullest.words ≡ none) × (fullest.warnings ≡ 0) × (fullest.errors ≡ 0) × (length (diagnostics fullest) ≡ max_diagnostics)
 unfolding fullest
-most_diagnostics_reached = (fullest_accepted, refl, refl, fullest_count)
+max_diagnostics_reached = (fullest_accepted, refl, refl, fullest_count)
 
 -- "Four i32: row, place, code, value": they hold the numbers of each diagnostic of such an image
 pub records_hold : (i : Image) → image_refusal i.table i.words ≡ none → All (λ d. All Signed32 (diagnostic_fields d)) (diagnostics i)
@@ -262,13 +262,13 @@ pub truncated_owner_marks : (p : Proto) (pc j : ℕ) → Executable p pc → j <
 truncated_owner_marks p pc j x h = owned_role p pc j x h
 
 -- not "10,000 as a cut inside a word's findings": a step that begins below the limit adds all of its diagnostics
-pub no_cut_within_a_step : (incoming row : ℕ) (v : Walk) (s : Step) → v.ended ≡ false → count_n incoming v < max_diagnostics
+pub no_cut_within_a_step : (incoming row : ℕ) (v : Walk) (s : Step) → v.ended ≡ false → count_n incoming v < diagnostic_limit
     → advance incoming row v s ≡ record { found = v.found ++ map (in_row row) s.adds; ended = false }
 no_cut_within_a_step incoming row v s going h = advance_going incoming row v s going h
 
 -- and a word's diagnostics are one step
-pub theorem_f_one_step : (p : Proto) (pc : ℕ) → pc < length p.code → Some (λ s. s ≡ tested_step (diagnostics_at p pc)) (proto_steps p)
-theorem_f_one_step p pc h = word_is_one_step p pc h
+pub each_word_is_one_step : (p : Proto) (pc : ℕ) → pc < length p.code → Some (λ s. s ≡ tested_step (diagnostics_at p pc)) (proto_steps p)
+each_word_is_one_step p pc h = word_is_one_step p pc h
 
 -- (not "binding index clamped rather than reduced": the table, P10 and 511)
 
@@ -288,7 +288,7 @@ demand_3 i role_length diagnostics_length c e = check_guaranteed i role_length d
 pub passed_says : (p : Proto) → Passed p → WellFormed p × ((choices : List Bool) → SafeRun p choices)
 passed_says p k = (k.well_formed, k.runs)
 
-pub guarantee_of_verdict : (i : Image) (c : Checked) → Guarantee i c → (c.verdict ≡ verdict i) × (c.count ≡ length (diagnostics i)) × (c.count ≤ most_diagnostics)
+pub guarantee_of_verdict : (i : Image) (c : Checked) → Guarantee i c → (c.verdict ≡ verdict i) × (c.count ≡ length (diagnostics i)) × (c.count ≤ max_diagnostics)
 guarantee_of_verdict i c g = (g.verdict, g.count, g.most)
 
 pub guarantee_of_safety : (i : Image) (c : Checked) → Guarantee i c → All (λ p. WellFormed p → (choices : List Bool) → SafeRun p choices) (image_protos i)
@@ -297,7 +297,7 @@ guarantee_of_safety i c g = g.safe
 pub guarantee_of_a_pass : (i : Image) (c : Checked) → Guarantee i c → c.verdict ≡ ValidForParser → All Passed (image_protos i)
 guarantee_of_a_pass i c g = g.valid
 
-pub guarantee_of_exactness : (i : Image) (c : Checked) → Guarantee i c → i.errors ≡ 0 → i.warnings + large_stacks (image_protos i) < max_diagnostics → (c.verdict ≡ ValidForParser) ↔ All WellFormed (image_protos i)
+pub guarantee_of_exactness : (i : Image) (c : Checked) → Guarantee i c → i.errors ≡ 0 → i.warnings + large_stacks (image_protos i) < diagnostic_limit → (c.verdict ≡ ValidForParser) ↔ All WellFormed (image_protos i)
 guarantee_of_exactness i c g = g.exact
 
 pub guarantee_of_invalid : (i : Image) (c : Checked) → Guarantee i c → (c.verdict ≡ Invalid) ↔ ((0 < i.errors) ⊎ Some IsError (diagnostics i))

@@ -16,10 +16,10 @@ use Rattle.base.specs.Bytes.{u32s}
 use Rattle.roles_spec.specs.Table.{Row, row_at, rows, below, children, Proto, protos_of, protos}
 use Rattle.roles_spec.specs.Refusals.{bad_depth, image_refusal}
 use Rattle.validator_spec.specs.Diagnostics.{Step, tested_step, proto_steps}
-use Rattle.validator_spec.specs.Walk.{Walk, max_diagnostics, count_n, start, advance, walk_row, walk_from, walk}
+use Rattle.validator_spec.specs.Walk.{Walk, diagnostic_limit, count_n, start, advance, walk_row, walk_from, walk}
 use Rattle.validator_spec.specs.Image.{Image, image_protos, image_walk}
 use Rattle.validator_spec.specs.Statements.{walk_proto, walk_by_children}
-use Rattle.base.proofs.TestLaws.{or_false}
+use Rattle.base.proofs.BoolLaws.{or_false}
 use Rattle.base.proofs.AllLaws.{all_at, all_of, all_map}
 use Rattle.roles_spec.proofs.TableLaws.{length_rows, drop_rows, below_end, below_next, below_split, children_end, children_found, children_deeper, length_protos_of}
 use Rattle.roles_spec.proofs.RefusalLaws.{DepthKept, depth_kept, image_kept}
@@ -35,14 +35,14 @@ advance_ended incoming row v s e = rw e
 -- a test made twice in a row, as before a child and at the start of its row, is one test
 pub test_twice : (incoming row : ℕ) (v : Walk) → advance incoming row (advance incoming row v (tested_step [])) (tested_step []) ≡ advance incoming row v (tested_step [])
 unfolding advance tested_step
-test_twice incoming row v = go (v.ended || leb max_diagnostics (count_n incoming v)) refl
+test_twice incoming row v = go (v.ended || leb diagnostic_limit (count_n incoming v)) refl
   where
-    go : (b : Bool) → (v.ended || leb max_diagnostics (count_n incoming v)) ≡ b
+    go : (b : Bool) → (v.ended || leb diagnostic_limit (count_n incoming v)) ≡ b
         → advance incoming row (advance incoming row v (tested_step [])) (tested_step []) ≡ advance incoming row v (tested_step [])
     go true e = advance_ended incoming row (advance incoming row v (tested_step [])) (tested_step []) (rw e)
     go false e =
         let t = or_false v.ended _ e in
-        ap (λ (u : Walk). advance incoming row u (tested_step [])) (advance_none incoming row v (tested_step []) t.0 (leb-false max_diagnostics _ t.1) refl)
+        ap (λ (u : Walk). advance incoming row u (tested_step [])) (advance_none incoming row v (tested_step []) t.0 (leb-false diagnostic_limit _ t.1) refl)
 
 -- steps that begin with a test
 pub data Begins : List Step → Type 0 where
@@ -281,9 +281,9 @@ module _ (incoming : ℕ) (table : List ℕ) (all : List (List Step)) (same : le
   by_rows (suc fuel) d k u f t = siblings fuel (by_rows fuel) (suc fuel) d k u f f t
 
   -- Row 0 has depth 0 and all later rows are below it: so the walk is its own steps and then its children
-  walk_by_children_lem : bad_depth 0 0 rs ≡ none → (fuel : ℕ) → length rs ≡ suc fuel → walk incoming all ≡ walk_proto incoming rs all (suc fuel) (row_at table 0) start
+  walk_is_by_children : bad_depth 0 0 rs ≡ none → (fuel : ℕ) → length rs ≡ suc fuel → walk incoming all ≡ walk_proto incoming rs all (suc fuel) (row_at table 0) start
   unfolding walk walk_from ByRows
-  walk_by_children_lem e fuel l =
+  walk_is_by_children e fuel l =
       sym (
       proto_unfolds fuel 0 start
       ∙ by_rows fuel r.depth 1 own (omega arith) (deepens_kept 1 (suc r.depth) later k.later)
@@ -310,12 +310,12 @@ module _ (incoming : ℕ) (table : List ℕ) (all : List (List Step)) (same : le
       count : length later ≡ length (drop 1 all)
       count = omega (arith, length-drop 1 rs, length-drop 1 all)
 
--- of an accepted image
+-- the walk over an accepted image
 pub image_by_children : (i : Image) → image_refusal i.table i.words ≡ none → image_walk i ≡ walk_by_children i
 unfolding image_walk image_protos protos walk_by_children
 image_by_children i a =
     let kept = image_kept i.table i.words a in
     let ps = protos_of (rows i.table) (u32s i.words) in
     let count : length (rows i.table) ≡ suc (length (rows i.table) - 1) = omega (arith, length_rows i.table, kept.some_row, kept.whole_rows) in
-    walk_by_children_lem (i.warnings + i.errors) i.table (map proto_steps ps) (length-map ps proto_steps ∙ length_protos_of (rows i.table) (u32s i.words)) (all_map Begins proto_steps (all_of proto_begins ps)) kept.depths (length (rows i.table) - 1) count
+    walk_is_by_children (i.warnings + i.errors) i.table (map proto_steps ps) (length-map ps proto_steps ∙ length_protos_of (rows i.table) (u32s i.words)) (all_map Begins proto_steps (all_of proto_begins ps)) kept.depths (length (rows i.table) - 1) count
     ∙ ap (λ (fuel : ℕ). walk_proto (i.warnings + i.errors) (rows i.table) (map proto_steps ps) fuel (row_at i.table 0) start) (sym count)

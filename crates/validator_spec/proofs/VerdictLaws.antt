@@ -14,12 +14,12 @@ use Rattle.base.specs.Lists.{All, all_nil, all_cons, only, up_from, select, keep
 use Rattle.roles_spec.specs.Table.{Proto}
 use Rattle.validator_spec.specs.Diagnostics.{Diagnostic, truncation_at, has_large_stack, stack_diagnostics, diagnostics_at, Step, tested_step, untested_step, proto_steps}
 use Rattle.validator_spec.specs.Rules.{WellFormed}
-use Rattle.validator_spec.specs.Walk.{RowDiagnostic, in_row, max_diagnostics, Walk, start, count_n, advance, walk_row, walk_from, walk, Verdict, ValidForParser, Incomplete, Invalid, limit_reached, has_errors, verdict_of, error_in}
+use Rattle.validator_spec.specs.Walk.{RowDiagnostic, in_row, diagnostic_limit, Walk, start, count_n, advance, walk_row, walk_from, walk, Verdict, ValidForParser, Incomplete, Invalid, limit_reached, has_errors, verdict_of, error_in}
 use Rattle.validator_spec.specs.Image.{Image, image_protos, image_walk, diagnostics, verdict}
 use Rattle.validator_spec.specs.Statements.{large_stacks, IsError}
 use Rattle.base.proofs.AllLaws.{all_append, all_left, all_right, all_head, all_tail, flatten_all, map_all, all_map, flat_map_all, flat_map_none, up_to_all, all_of, all_imp}
-use Rattle.base.proofs.TestLaws.{true≢false, or_false, by_or}
-use Rattle.validator_spec.proofs.RuleLaws.{Warns, clean_well_formed, no_truncation, no_diagnostics}
+use Rattle.base.proofs.BoolLaws.{true≢false, or_false, by_or}
+use Rattle.validator_spec.proofs.RuleDiagnosticLaws.{Warns, clean_well_formed, no_truncation, no_diagnostics}
 
 abbrev RowWarns : RowDiagnostic → Type 0
 RowWarns d = Warns d.diagnostic
@@ -35,9 +35,9 @@ CleanStep s = All Warns s.adds
 
 advance_clean : (incoming row : ℕ) (v : Walk) (s : Step) → Clean (advance incoming row v s) → Clean v × CleanStep s
 unfolding advance
-advance_clean incoming row v s = go (v.ended || s.tested && leb max_diagnostics (count_n incoming v)) refl
+advance_clean incoming row v s = go (v.ended || s.tested && leb diagnostic_limit (count_n incoming v)) refl
   where
-    go : (b : Bool) → (v.ended || s.tested && leb max_diagnostics (count_n incoming v)) ≡ b
+    go : (b : Bool) → (v.ended || s.tested && leb diagnostic_limit (count_n incoming v)) ≡ b
         → Clean (cond b (record { found = v.found; ended = true }) (record { found = v.found ++ map (in_row row) s.adds; ended = false })) → Clean v × CleanStep s
     go true e c = true≢false c.going
     go false e c =
@@ -95,17 +95,17 @@ word_is_one_step p pc h =
 -- ---- a walk over well-formed prototypes
 
 -- a step below the limit
-pub advance_going : (incoming row : ℕ) (v : Walk) (s : Step) → v.ended ≡ false → count_n incoming v < max_diagnostics
+pub advance_going : (incoming row : ℕ) (v : Walk) (s : Step) → v.ended ≡ false → count_n incoming v < diagnostic_limit
     → advance incoming row v s ≡ record { found = v.found ++ map (in_row row) s.adds; ended = false }
 unfolding advance
-advance_going incoming row v s e h = simp (e, lt-leb max_diagnostics _ h, and-false)
+advance_going incoming row v s e h = simp (e, lt-leb diagnostic_limit _ h, and-false)
 
-pub advance_none : (incoming row : ℕ) (v : Walk) (s : Step) → v.ended ≡ false → count_n incoming v < max_diagnostics → s.adds ≡ [] → advance incoming row v s ≡ v
+pub advance_none : (incoming row : ℕ) (v : Walk) (s : Step) → v.ended ≡ false → count_n incoming v < diagnostic_limit → s.adds ≡ [] → advance incoming row v s ≡ v
 advance_none incoming row v s e h q =
     advance_going incoming row v s e h ∙ rw (q, append-nil) (λ i. record { found = v.found; ended = sym e i })
 
 -- steps that add nothing change nothing below the limit
-quiet : (incoming row : ℕ) (v : Walk) (ss : List Step) → v.ended ≡ false → count_n incoming v < max_diagnostics → All (λ s. s.adds ≡ []) ss
+quiet : (incoming row : ℕ) (v : Walk) (ss : List Step) → v.ended ≡ false → count_n incoming v < diagnostic_limit → All (λ s. s.adds ≡ []) ss
     → foldl (advance incoming row) v ss ≡ v
 quiet incoming row v [] e h q = refl
 quiet incoming row v (s ∷ ss) e h (all_cons q qs) =
@@ -140,7 +140,7 @@ well_formed_steps p k =
     let whole : flat_map (truncation_at p) (up_from 0 (length p.code)) ≡ [] = flat_map_none (truncation_at p) (all_of (no_truncation p k) _) in
     rw (whole, append-nil)
 
-proto_kept : (incoming row : ℕ) (v : Walk) (p : Proto) → WellFormed p → v.ended ≡ false → count_n incoming v + length (stack_diagnostics p) < max_diagnostics
+proto_kept : (incoming row : ℕ) (v : Walk) (p : Proto) → WellFormed p → v.ended ≡ false → count_n incoming v + length (stack_diagnostics p) < diagnostic_limit
     → walk_row incoming row v (proto_steps p) ≡ after row v p
 unfolding walk_row tested_step untested_step
 proto_kept incoming row v p k e h =
@@ -155,9 +155,9 @@ proto_kept incoming row v p k e h =
 -- a clean walk below the limit
 record Good (incoming : ℕ) (v : Walk) : Type 0 where
   clean : Clean v
-  below : count_n incoming v < max_diagnostics
+  below : count_n incoming v < diagnostic_limit
 
-walk_kept : (incoming row : ℕ) (v : Walk) (ps : List Proto) → All WellFormed ps → Clean v → count_n incoming v + large_stacks ps < max_diagnostics
+walk_kept : (incoming row : ℕ) (v : Walk) (ps : List Proto) → All WellFormed ps → Clean v → count_n incoming v + large_stacks ps < diagnostic_limit
     → Good incoming (walk_from incoming row v (map proto_steps ps))
 unfolding walk_from
 walk_kept incoming row v [] all_nil c h = record { clean = c; below = omega arith }
@@ -206,15 +206,15 @@ valid_well_formed i e =
     let c : Clean v = record { going = (or_false v.ended _ t.1).0; warns = no_error v.found (or_false (ltb 0 i.errors) _ t.0).1 } in
     all_imp proto_clean (map_all (All CleanStep) proto_steps ps (walk_clean (i.warnings + i.errors) 0 start (map proto_steps ps) c).1)
 
--- and the other way, with no error that came in and fewer warnings than the limit, those of the stacks included
-pub well_formed_valid : (i : Image) → i.errors ≡ 0 → i.warnings + large_stacks (image_protos i) < max_diagnostics → All WellFormed (image_protos i) → verdict i ≡ ValidForParser
+-- the other way round: with no incoming error, and incoming warnings and large stacks together below the limit
+pub well_formed_valid : (i : Image) → i.errors ≡ 0 → i.warnings + large_stacks (image_protos i) < diagnostic_limit → All WellFormed (image_protos i) → verdict i ≡ ValidForParser
 unfolding verdict verdict_of has_errors limit_reached image_walk walk
 well_formed_valid i none h k =
     let incoming = i.warnings + i.errors in
     let g = walk_kept incoming 0 start (image_protos i) k (record { going = refl; warns = all_nil }) (omega arith) in
-    let below : count_n incoming (image_walk i) ≤ max_diagnostics = omega (arith, g.below) in
+    let below : count_n incoming (image_walk i) ≤ diagnostic_limit = omega (arith, g.below) in
     let e : ltb 0 i.errors ≡ false = le-ltb 0 i.errors (omega arith) in
-    rw (e, error_none g.clean.warns, g.clean.going, le-ltb max_diagnostics _ below)
+    rw (e, error_none g.clean.warns, g.clean.going, le-ltb diagnostic_limit _ below)
 
 abbrev IsInvalid : Verdict → Type 0
 IsInvalid ValidForParser = ⊥

@@ -13,21 +13,22 @@ use Rattle.opcodes.specs.Words.{is, B, C, is_constant, constant_index}
 use Rattle.base.proofs.AllLaws.{all_head, all_tail}
 use Rattle.roles_spec.specs.Table.{Proto}
 use Rattle.roles_spec.specs.Roles.{Executable, binding_count, has_extra, claims, roles_from, roles, role_at, word_at, executable_at, owned, existing, companions, is_truncated, binding_words}
+use Rattle.roles_spec.specs.Samples.{plain_proto}
 use Rattle.roles_spec.proofs.RoleLaws.{executable, first_executable}
 use Rattle.validator_spec.specs.Operands.{is_unknown, is_binding, target, is_jump, is_skip, is_loadbool_skip, skip_target, constant_bx, upvalue_b, flag_a, register_a, span_ends, register_in, constant_in, child_bx, captured_register, captured_upvalue}
 use Rattle.validator_spec.specs.Diagnostics.{has_large_stack, truncation_at, opcode_diagnostics, jump_diagnostics, skip_diagnostics, not_below, operand_diagnostics, known_diagnostics, word_diagnostics, diagnostics_at}
 use Rattle.validator_spec.specs.Rules.{registers_of, constants_of, WellFormed}
 use Rattle.validator_spec.specs.Executions.{ended_at, no_word_at, arrive, next, meet, run_from, run, MayLeave, SafeRun}
 use Rattle.validator_spec.specs.Statements.{large_stacks}
-use Rattle.validator_spec.proofs.RuleLaws.{well_formed_iff_none}
+use Rattle.validator_spec.proofs.RuleDiagnosticLaws.{well_formed_iff_none}
 
 -- one word, without constants, upvalues and children
 abbrev one_word : ℕ → ℕ → Proto
-one_word w stack = record { code = w ∷ []; constants = 0; upvalues = 0; stack = stack; children = [] }
+one_word w stack = plain_proto (w ∷ []) 0 stack []
 
 -- a CLOSURE of child 0, which has one upvalue, and its companion
 abbrev bound : ℕ → Proto
-bound w = record { code = 0x00000024 ∷ w ∷ []; constants = 0; upvalues = 0; stack = 2; children = 1 ∷ [] }
+bound w = plain_proto (0x00000024 ∷ w ∷ []) 0 2 (1 ∷ [])
 
 -- the first word of any prototype that has one is executable
 first : (w : ℕ) (ws : List ℕ) (p : Proto) → p.code ≡ w ∷ ws → Executable p 0
@@ -56,7 +57,7 @@ breaks_jump_past k = (k.words 0 (first _ [] (one_word 0x7fffc016 2) refl)).jump.
 
 -- an EQ that skips to the extra word of a SETLIST
 abbrev skips_to_extra : Proto
-skips_to_extra = record { code = 0x00000017 ∷ 0x00000022 ∷ 0x0080001e ∷ []; constants = 0; upvalues = 0; stack = 2; children = [] }
+skips_to_extra = plain_proto (0x00000017 ∷ 0x00000022 ∷ 0x0080001e ∷ []) 0 2 []
 
 pub breaks_skip : WellFormed skips_to_extra → ⊥
 unfolding is_skip is_loadbool_skip skip_target word_at is role_at roles roles_from claims binding_count has_extra C only
@@ -152,7 +153,7 @@ unsafe_captured_upvalue s = let h : 0 < 0 = all_head ((all_head s.met).operands.
 
 -- a JMP to the extra word of a SETLIST
 abbrev jumps_to_extra : Proto
-jumps_to_extra = record { code = 0x80000016 ∷ 0x00000022 ∷ 0x0080001e ∷ []; constants = 0; upvalues = 0; stack = 2; children = [] }
+jumps_to_extra = plain_proto (0x80000016 ∷ 0x00000022 ∷ 0x0080001e ∷ []) 0 2 []
 
 pub unsafe_extra : SafeRun jumps_to_extra (true ∷ []) → ⊥
 unfolding SafeRun run run_from meet next arrive word_at is target executable_at role_at roles roles_from claims binding_count has_extra C only
@@ -160,7 +161,7 @@ unsafe_extra s = (all_head (all_tail s.met)).executable
 
 -- a JMP to the binding word of a CLOSURE
 abbrev jumps_to_binding : Proto
-jumps_to_binding = record { code = 0x80000016 ∷ 0x00000024 ∷ 0x00000000 ∷ []; constants = 0; upvalues = 0; stack = 2; children = 1 ∷ [] }
+jumps_to_binding = plain_proto (0x80000016 ∷ 0x00000024 ∷ 0x00000000 ∷ []) 0 2 (1 ∷ [])
 
 pub unsafe_binding_word : SafeRun jumps_to_binding (true ∷ []) → ⊥
 unfolding SafeRun run run_from meet next arrive word_at is target executable_at role_at roles roles_from claims binding_count has_extra C only
@@ -181,7 +182,7 @@ no_exit_at_a_word m = not-suc-le-zero m
 
 -- ---- of two prototypes without words, with stacks of 250 and 251, the second has a large stack
 
-pub one_large_stack : large_stacks (record { code = []; constants = 0; upvalues = 0; stack = 250; children = [] } ∷ record { code = []; constants = 0; upvalues = 0; stack = 251; children = [] } ∷ []) ≡ 1
+pub one_large_stack : large_stacks (plain_proto [] 0 250 [] ∷ plain_proto [] 0 251 [] ∷ []) ≡ 1
 unfolding large_stacks has_large_stack
 one_large_stack = refl
 

@@ -14,7 +14,7 @@ pub record Checked : Type 0 where
   pub verdict : Verdict
   pub count : ℕ
 
--- of an image
+-- the check's result for an image
 unfoldable pub checked : Image → Checked
 checked i = record { verdict = verdict i; count = length (diagnostics i) }
 

@@ -7,13 +7,17 @@ use Rattle.roles_spec.specs.Table.{Proto}
 use Rattle.roles_spec.specs.Roles.{role_at, is_executable, word_at, executable_at, owned, is_truncated, binding_words}
 use Rattle.validator_spec.specs.Operands.{is_unknown, is_binding, is_jump, target, is_skip, skip_target, constant_bx, upvalue_b, flag_a, flag_limit, register_a, span_ends, register_in, constant_in, child_bx, captured_register, captured_upvalue}
 
--- a diagnostic (the document's finding) but for its row; `code` is the number in the document's table
+-- a diagnostic (the document's finding) without its row; `code` is the number in the document's table
 pub record Diagnostic : Type 0 where
   pub pc : ℤ
   pub code : ℕ
   pub value : ℤ
 
--- at a word
+-- the number of codes, which are numbered from 1
+abbrev pub code_count : ℕ
+code_count = 17
+
+-- a diagnostic at a word
 abbrev pub diagnostic : ℕ → ℕ → ℤ → Diagnostic
 diagnostic pc code value = record { pc = pos pc; code = code; value = value }
 
@@ -33,7 +37,7 @@ truncation_at p pc =
 abbrev pub usual_stack : ℕ
 usual_stack = 250
 
--- a larger one
+-- the stack of a prototype is larger
 unfoldable pub has_large_stack : Proto → Bool
 has_large_stack p = ltb usual_stack p.stack
 
@@ -53,7 +57,7 @@ target_diagnostics p pc (negsuc n) = diagnostic pc 5 (negsuc n) ∷ []
 target_diagnostics p pc (pos n) =
     cond (ltb n (length p.code)) (only (not (is_executable (role_at p n))) (diagnostic pc 6 (pos n))) (diagnostic pc 5 (pos n) ∷ [])
 
--- of a word with a target
+-- codes 5 and 6 of a word with a target
 unfoldable pub jump_diagnostics : Proto → ℕ → ℕ → List Diagnostic
 jump_diagnostics p pc w = cond (is_jump w) (target_diagnostics p pc (target pc w)) []
 
@@ -61,7 +65,7 @@ jump_diagnostics p pc w = cond (is_jump w) (target_diagnostics p pc (target pc w
 unfoldable pub skip_diagnostics : Proto → ℕ → ℕ → List Diagnostic
 skip_diagnostics p pc w = only (is_skip w && not (is_executable (role_at p (skip_target pc)))) (diagnostic pc 6 (pos (skip_target pc)))
 
--- those of some operands that are "not below" their limit
+-- the diagnostics of operands that are "not below" their limit
 unfoldable pub not_below : ℕ → ℕ → ℕ → List ℕ → List Diagnostic
 not_below pc code limit vs = map (λ v. diagnostic pc code (pos v)) (select (λ v. leb limit v) vs)
 
@@ -112,7 +116,7 @@ known_diagnostics p pc w =
 unfoldable pub word_diagnostics : Proto → ℕ → ℕ → List Diagnostic
 word_diagnostics p pc w = opcode_diagnostics pc w ++ cond (is_unknown w) [] (known_diagnostics p pc w)
 
--- of the word at pc: a companion has none, nor a pc without a word
+-- the diagnostics of the word at pc; a companion has none, and neither has a pc without a word
 unfoldable pub diagnostics_at : Proto → ℕ → List Diagnostic
 diagnostics_at p pc = cond (executable_at p pc) (word_diagnostics p pc (word_at p pc)) []
 

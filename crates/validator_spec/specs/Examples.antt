@@ -6,6 +6,7 @@ use Rattle.base.specs.Bytes.{u32_record}
 use Rattle.roles_spec.specs.Table.{Proto}
 use Rattle.roles_spec.specs.Bindings.{binding_fields}
 use Rattle.roles_spec.specs.Calls.{image_bindings}
+use Rattle.roles_spec.specs.Samples.{row, parent_rows, parent_words, plain_proto}
 use Rattle.validator_spec.specs.Walk.{Verdict, ValidForParser, Incomplete, Invalid, diagnostic_fields}
 use Rattle.validator_spec.specs.Executions.{Exit, ended_at, no_word_at, out_of_choices, Trace}
 use Rattle.validator_spec.specs.Image.{Image, diagnostics, verdict}
@@ -16,7 +17,7 @@ pub record Result : Type 0 where
   pub bindings : List ℤ
   pub verdict : Verdict
 
--- what the definitions say of it
+-- the result of an image, by the definitions
 unfoldable pub result : Image → Result
 result i =
     record {
@@ -25,12 +26,12 @@ result i =
       verdict = verdict i;
     }
 
--- an image, and what is to be said of it
+-- an image, and its expected result
 pub record Example : Type 0 where
   pub image : Image
   pub expected : Result
 
--- an image by its rows, depth, words, constants, upvalues and stack each, its words, and what came in; and the diagnostics, bindings and verdict of it
+-- an example: an image by its rows (depth, words, constants, upvalues, stack), words and incoming numbers; its diagnostics, bindings and verdict
 abbrev example : List ℕ → List ℕ → ℕ → ℕ → List ℤ → List ℤ → Verdict → Example
 example rows words warnings errors found bound v =
     record {
@@ -38,21 +39,17 @@ example rows words warnings errors found bound v =
       expected = record { diagnostics = found; bindings = bound; verdict = v };
     }
 
--- a row of the table
-abbrev row : ℕ → ℕ → ℕ → ℕ → ℕ → List ℕ
-row depth words constants upvalues stack = depth ∷ words ∷ constants ∷ upvalues ∷ stack ∷ []
-
--- "One part, 0 constants", of one word, and of none
+-- an example: "One part, 0 constants", with one word
 abbrev word : ℕ → ℕ → List ℤ → Verdict → Example
 word w stack found v = example (row 0 1 0 0 stack) (w ∷ []) 0 0 found [] v
 
--- without words
+-- an example: one part without words
 abbrev empty : ℕ → ℕ → ℕ → List ℤ → Verdict → Example
 empty stack warnings errors found v = example (row 0 0 0 0 stack) [] warnings errors found [] v
 
--- so many words, stack 2, and a child of so many upvalues "holding 0x0080001e"; it is Invalid
-abbrev parent : ℕ → List ℕ → ℕ → List ℤ → List ℤ → Example
-parent n words upvalues found bound = example (row 0 n 0 0 2 ++ row 1 1 0 upvalues 2) (words ++ 0x0080001e ∷ []) 0 0 found bound Invalid
+-- an example: a prototype of these words and stack 2, and its child with `upvalues` upvalues, "holding 0x0080001e"; it is Invalid
+abbrev parent : List ℕ → ℕ → List ℤ → List ℤ → Example
+parent words upvalues found bound = example (parent_rows words upvalues) (parent_words words) 0 0 found bound Invalid
 
 -- a diagnostic of row 0
 abbrev row0 : ℕ → ℕ → ℤ → List ℤ
@@ -74,8 +71,8 @@ examples =
     ∷ word 0x0080001e 1 [] ValidForParser
     ∷ word 0x0100c01c 1 (row0 0 11 (pos 1) ++ row0 0 11 (pos 1)) Invalid
     -- P10, P11
-    ∷ parent 2 (0x00000024 ∷ 0x96000000 ∷ []) 1 (row0 1 12 (pos 300)) (pos 1 ∷ pos 44 ∷ pos 1 ∷ [])
-    ∷ parent 1 (0x00000024 ∷ []) 1 (row0 0 1 (pos 1)) (pos 0 ∷ pos 0 ∷ negsuc 0 ∷ [])
+    ∷ parent (0x00000024 ∷ 0x96000000 ∷ []) 1 (row0 1 12 (pos 300)) (pos 1 ∷ pos 44 ∷ pos 1 ∷ [])
+    ∷ parent (0x00000024 ∷ []) 1 (row0 0 1 (pos 1)) (pos 0 ∷ pos 0 ∷ negsuc 0 ∷ [])
     -- P12 twice, P13 twice: the document does not say which words P13 has, and here it has none; the error comes with the warnings
     ∷ empty 251 0 0 (pos 0 ∷ negsuc 0 ∷ pos 3 ∷ pos 251 ∷ []) ValidForParser
     ∷ empty 250 0 0 [] ValidForParser
@@ -88,15 +85,15 @@ unfoldable pub misreadings : List Example
 misreadings =
     -- "a companion that looks like CLOSURE owning words": it owns none, so that the word after it, a RETURN of register 2, is executable.
     -- The companion is a CLOSURE's, then a SETLIST's
-    parent 3 (0x00000024 ∷ 0x00000024 ∷ 0x0080009e ∷ []) 1 (row0 1 17 (pos 36) ++ row0 2 10 (pos 2)) (pos 0 ∷ pos 0 ∷ negsuc 0 ∷ [])
-    ∷ parent 3 (0x00800022 ∷ 0x00000024 ∷ 0x0080009e ∷ []) 1 (row0 2 10 (pos 2)) (pos 0 ∷ pos 0 ∷ negsuc 0 ∷ [])
+    parent (0x00000024 ∷ 0x00000024 ∷ 0x0080009e ∷ []) 1 (row0 1 17 (pos 36) ++ row0 2 10 (pos 2)) (pos 0 ∷ pos 0 ∷ negsuc 0 ∷ [])
+    ∷ parent (0x00800022 ∷ 0x00000024 ∷ 0x0080009e ∷ []) 1 (row0 2 10 (pos 2)) (pos 0 ∷ pos 0 ∷ negsuc 0 ∷ [])
     -- "a truncated CLOSURE leaving its existing companions unmarked": the one that exists is judged as a binding word, and binds
-    ∷ parent 2 (0x00000024 ∷ 0x0000003f ∷ []) 2 (row0 0 1 (pos 2) ++ row0 1 17 (negsuc 0)) (pos 0 ∷ pos 0 ∷ negsuc 0 ∷ pos 0 ∷ pos 0 ∷ negsuc 0 ∷ [])
-    ∷ parent 2 (0x00000024 ∷ 0x00000000 ∷ []) 2 (row0 0 1 (pos 2)) (pos 1 ∷ pos 0 ∷ pos 1 ∷ pos 0 ∷ pos 0 ∷ negsuc 0 ∷ [])
+    ∷ parent (0x00000024 ∷ 0x0000003f ∷ []) 2 (row0 0 1 (pos 2) ++ row0 1 17 (negsuc 0)) (pos 0 ∷ pos 0 ∷ negsuc 0 ∷ pos 0 ∷ pos 0 ∷ negsuc 0 ∷ [])
+    ∷ parent (0x00000024 ∷ 0x00000000 ∷ []) 2 (row0 0 1 (pos 2)) (pos 1 ∷ pos 0 ∷ pos 1 ∷ pos 0 ∷ pos 0 ∷ negsuc 0 ∷ [])
     -- "10,000 as a cut inside a word's findings": N is 9,999 before a word with two diagnostics, and 10,001 after it
     ∷ example (row 0 1 0 0 1) (0x0100c01c ∷ []) 9999 0 (row0 0 11 (pos 1) ++ row0 0 11 (pos 1)) [] Invalid
     -- "binding index clamped rather than reduced": P10, and 511 as 255
-    ∷ parent 2 (0x00000024 ∷ 0xff800000 ∷ []) 1 (row0 1 12 (pos 511)) (pos 1 ∷ pos 255 ∷ pos 1 ∷ [])
+    ∷ parent (0x00000024 ∷ 0xff800000 ∷ []) 1 (row0 1 12 (pos 511)) (pos 1 ∷ pos 255 ∷ pos 1 ∷ [])
     ∷ []
 
 -- cases beyond the document's
@@ -126,7 +123,7 @@ more_examples =
     -- a CLOSURE with a companion GETUPVAL: of an upvalue that is there, and of one that is not; and with a LOADNIL
     ∷ example (row 0 2 0 1 2 ++ row 1 1 0 1 2) (0x00000024 ∷ 0x00000004 ∷ 0x0080001e ∷ []) 0 0 [] (pos 0 ∷ pos 0 ∷ negsuc 0 ∷ pos 0 ∷ pos 0 ∷ pos 1 ∷ []) ValidForParser
     ∷ example (row 0 2 0 1 2 ++ row 1 1 0 1 2) (0x00000024 ∷ 0x00800004 ∷ 0x0080001e ∷ []) 0 0 (row0 1 8 (pos 1)) (pos 0 ∷ pos 0 ∷ negsuc 0 ∷ pos 0 ∷ pos 1 ∷ pos 1 ∷ []) Invalid
-    ∷ parent 2 (0x00000024 ∷ 0x00000003 ∷ []) 1 (row0 1 17 (pos 3)) (pos 0 ∷ pos 0 ∷ negsuc 0 ∷ [])
+    ∷ parent (0x00000024 ∷ 0x00000003 ∷ []) 1 (row0 1 17 (pos 3)) (pos 0 ∷ pos 0 ∷ negsuc 0 ∷ [])
     -- constants: a LOADK of the last one and of one past it, a SETGLOBAL of one past it; upvalues: a SETUPVAL
     ∷ example (row 0 1 1 0 2) (0x00000001 ∷ []) 0 0 [] [] ValidForParser
     ∷ example (row 0 1 1 0 2) (0x00004001 ∷ []) 0 0 (row0 0 7 (pos 1)) [] Invalid
@@ -159,11 +156,11 @@ pub record RunExample : Type 0 where
   pub choices : List Bool
   pub expected : Trace
 
--- of these words, with a child of one upvalue and a child of two
+-- a run of these words, with a child of one upvalue and a child of two
 abbrev run_of : List ℕ → List Bool → List ℕ → Exit → RunExample
 run_of code choices met exit =
     record {
-      proto = record { code = code; constants = 0; upvalues = 0; stack = 2; children = 1 ∷ 2 ∷ [] };
+      proto = plain_proto code 0 2 (1 ∷ 2 ∷ []);
       choices = choices;
       expected = record { met = met; exit = exit };
     }
@@ -172,7 +169,7 @@ run_of code choices met exit =
 abbrev goes : ℕ → Bool → ℕ → RunExample
 goes w choice pc = run_of (w ∷ 0x0080001e ∷ 0x0080001e ∷ []) (choice ∷ []) (0 ∷ pc ∷ []) out_of_choices
 
--- or where its run ends
+-- a word before two RETURNs, which ends its run
 abbrev ends : ℕ → Bool → RunExample
 ends w choice = run_of (w ∷ 0x0080001e ∷ 0x0080001e ∷ []) (choice ∷ []) (0 ∷ []) (ended_at 0)
 

@@ -13,12 +13,12 @@ pub data Exit : Type 0 where
   no_word_at : ℤ → Exit
   out_of_choices : Exit
 
--- at a word, or gone
+-- where a run is: at a word, or it has left
 pub data State : Type 0 where
   at : ℕ → State
   left : Exit → State
 
--- to come to the word at a pc, if there is one
+-- a run comes to a pc: it is at the word there, if there is one
 unfoldable pub arrive : Proto → ℤ → State
 arrive p (negsuc n) = left (no_word_at (negsuc n))
 arrive p (pos n) = cond (ltb n (length p.code)) (at n) (left (no_word_at (pos n)))
@@ -44,7 +44,7 @@ pub record Trace : Type 0 where
   pub met : List ℕ
   pub exit : Exit
 
--- one more met, before the others
+-- a trace with one more pc met, before the others
 unfoldable pub meet : ℕ → Trace → Trace
 meet pc t = record { met = pc ∷ t.met; exit = t.exit }
 
@@ -76,6 +76,6 @@ pub record Safe (p : Proto) (t : Trace) : Type 0 where
   pub met : All (MayMeet p) t.met
   pub exit : MayLeave p t.exit
 
--- it holds of the run on these choices
+-- the claim holds of the run on these choices
 unfoldable pub SafeRun : Proto → List Bool → Type 0
 SafeRun p choices = Safe p (run p choices)

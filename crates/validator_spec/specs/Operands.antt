@@ -31,7 +31,7 @@ conditional_skips = EQ ∷ LT ∷ LE ∷ TEST ∷ TESTSET ∷ TFORLOOP ∷ []
 unfoldable pub is_skip : ℕ → Bool
 is_skip w = is w conditional_skips || is_loadbool_skip w
 
--- the pc that it skips to
+-- the pc that a skip goes to
 unfoldable pub skip_target : ℕ → ℕ
 skip_target pc = pc + 2
 
@@ -75,11 +75,11 @@ span_ends w =
     ∷ []
     )
 
--- "B register, or RK B below 256", and the same for C: the rule is one for a field
+-- "B register, or RK B below 256", and likewise for C: one rule for either field
 unfoldable pub register_in : Field → ℕ → List ℕ
 register_in f w = only (is w f.fixed || is w f.rk && not (is_constant (operand f w))) (operand f w)
 
--- "RK constant B", and the same for C
+-- "RK constant B", and likewise for C
 unfoldable pub constant_in : Field → ℕ → List ℕ
 constant_in f w = only (is w f.rk && is_constant (operand f w)) (constant_index (operand f w))
 
@@ -89,7 +89,7 @@ child_bx w = only (is w (CLOSURE ∷ [])) (field_bx w)
 
 -- ---- what a companion of a CLOSURE captures: "a register under MOVE, an upvalue under GETUPVAL"
 
--- it captures something at all
+-- the companion captures something
 unfoldable pub is_binding : ℕ → Bool
 is_binding w = is w (MOVE ∷ GETUPVAL ∷ [])
 

@@ -4,7 +4,7 @@ use Rattle.base.specs.Bytes.{u32_from}
 use Rattle.base.specs.Lists.{tabulate}
 use Rattle.validator_spec.specs.Walk.{RowDiagnostic, diagnostic_bytes}
 
--- the i32 that these 32 bits are
+-- these 32 bits as an i32
 unfoldable pub signed : ℕ → ℤ
 signed bits = cond (ltb bits (2 ^ 31)) (pos bits) (negsuc (0xffff_ffff - bits))
 
@@ -17,6 +17,6 @@ diagnostic_in buffer i =
       diagnostic = record { pc = signed (u32_from buffer (at + 4)); code = u32_from buffer (at + 8); value = signed (u32_from buffer (at + 12)) };
     }
 
--- its first records
+-- the first records of a diagnostics buffer
 unfoldable pub diagnostics_in : List ℕ → ℕ → List RowDiagnostic
 diagnostics_in buffer count = tabulate count (diagnostic_in buffer)

@@ -8,7 +8,7 @@ use Rattle.roles_spec.specs.Table.{Proto}
 use Rattle.roles_spec.specs.Roles.{Executable, is_executable, role_at, word_at, is_truncated, binding_words}
 use Rattle.validator_spec.specs.Operands.{is_unknown, is_binding, is_jump, target, is_skip, skip_target, constant_bx, upvalue_b, flag_a, flag_limit, register_a, span_ends, register_in, constant_in, child_bx, captured_register, captured_upvalue}
 
--- each of some operands is below the limit
+-- each operand of a list is below the limit
 abbrev pub Below : ℕ → List ℕ → Type 0
 Below limit = All (λ v. v < limit)
 
@@ -38,7 +38,7 @@ abbrev pub Lands : Proto → ℤ → Type 0
 Lands p (pos n) = Executable p n
 Lands p (negsuc n) = ⊥
 
--- "jump 5, 6": both
+-- "jump 5, 6": both rules
 pub record JumpKept (p : Proto) (pc : ℕ) : Type 0 where
   pub target : T (is_jump (word_at p pc)) → Lands p (target pc (word_at p pc))
   pub skip : T (is_skip (word_at p pc)) → T (is_executable (role_at p (skip_target pc)))

@@ -4,7 +4,7 @@ use mathlib.Core.List.{List, [], ◌∷◌, map, foldl}
 use Rattle.base.specs.Lists.{All, Some, elem, select, up_from}
 use Rattle.roles_spec.specs.Table.{Row, row_at, rows, children, Proto}
 use Rattle.validator_spec.specs.Diagnostics.{Diagnostic, has_large_stack, Step, tested_step, proto_steps}
-use Rattle.validator_spec.specs.Walk.{RowDiagnostic, max_diagnostics, most_diagnostics, Walk, start, advance, walk_row, ValidForParser, Invalid}
+use Rattle.validator_spec.specs.Walk.{RowDiagnostic, diagnostic_limit, max_diagnostics, Walk, start, advance, walk_row, ValidForParser, Invalid}
 use Rattle.validator_spec.specs.Image.{Image, image_protos, diagnostics, verdict}
 use Rattle.validator_spec.specs.Check.{Checked}
 use Rattle.validator_spec.specs.Rules.{WellFormed}
@@ -61,9 +61,9 @@ pub record Guarantee (i : Image) (c : Checked) : Type 0 where
   pub safe : All (λ p. WellFormed p → (choices : List Bool) → SafeRun p choices) (image_protos i)
   -- ValidForParser, whatever came in: every prototype keeps the rules, and every run of it is safe
   pub valid : c.verdict ≡ ValidForParser → All Passed (image_protos i)
-  -- and exactly then, with no incoming error, and incoming warnings and prototypes with stack above 250 together below 10,000
-  pub exact : i.errors ≡ 0 → i.warnings + large_stacks (image_protos i) < max_diagnostics → (c.verdict ≡ ValidForParser) ↔ All WellFormed (image_protos i)
+  -- with no incoming error, and incoming warnings and prototypes with stack above 250 together below 10,000: ValidForParser exactly then
+  pub exact : i.errors ≡ 0 → i.warnings + large_stacks (image_protos i) < diagnostic_limit → (c.verdict ≡ ValidForParser) ↔ All WellFormed (image_protos i)
   -- Invalid exactly when an error came in or was found
   pub invalid : (c.verdict ≡ Invalid) ↔ ((0 < i.errors) ⊎ Some IsError (diagnostics i))
-  -- and at most so many diagnostics
-  pub most : c.count ≤ most_diagnostics
+  -- and at most `max_diagnostics` diagnostics
+  pub most : c.count ≤ max_diagnostics

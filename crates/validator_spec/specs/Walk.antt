@@ -10,17 +10,17 @@ pub record RowDiagnostic : Type 0 where
   pub row : ℕ
   pub diagnostic : Diagnostic
 
--- a diagnostic of that row
+-- a diagnostic, in row `row`
 abbrev pub in_row : ℕ → Diagnostic → RowDiagnostic
 in_row row d = record { row = row; diagnostic = d }
 
 -- the stop: the N at which a test ends the walk
-abbrev pub max_diagnostics : ℕ
-max_diagnostics = 10000
+abbrev pub diagnostic_limit : ℕ
+diagnostic_limit = 10000
 
 -- the most that the walk over an accepted image finds: "10,255 new ones can occur"
-abbrev pub most_diagnostics : ℕ
-most_diagnostics = 10255
+abbrev pub max_diagnostics : ℕ
+max_diagnostics = 10255
 
 -- what the walk found, and whether a test ended it
 pub record Walk : Type 0 where
@@ -38,7 +38,7 @@ count_n incoming v = incoming + length v.found
 -- one step: "Where N is 10,000 or more .. the walk ends"; else the step's diagnostics are added
 unfoldable pub advance : ℕ → ℕ → Walk → Step → Walk
 advance incoming row v s =
-    cond (v.ended || s.tested && leb max_diagnostics (count_n incoming v))
+    cond (v.ended || s.tested && leb diagnostic_limit (count_n incoming v))
     (record { found = v.found; ended = true })
     (record { found = v.found ++ map (in_row row) s.adds; ended = false })
 
@@ -51,15 +51,15 @@ unfoldable pub walk_from : ℕ → ℕ → Walk → List (List Step) → Walk
 walk_from incoming row v [] = v
 walk_from incoming row v (steps ∷ rest) = walk_from incoming (suc row) (walk_row incoming row v steps) rest
 
--- from row 0 on
+-- the walk over all rows, from row 0 on
 unfoldable pub walk : ℕ → List (List Step) → Walk
 walk incoming all = walk_from incoming 0 start all
 
 -- "N above 10,000 afterwards also counts as reached"
 unfoldable pub limit_reached : ℕ → Walk → Bool
-limit_reached incoming v = v.ended || ltb max_diagnostics (count_n incoming v)
+limit_reached incoming v = v.ended || ltb diagnostic_limit (count_n incoming v)
 
--- an error among those of all rows
+-- the test for a diagnostic that is an error
 abbrev pub error_in : RowDiagnostic → Bool
 error_in d = is_error d.diagnostic
 
@@ -81,6 +81,6 @@ verdict_of false false = ValidForParser
 unfoldable pub diagnostic_fields : RowDiagnostic → List ℤ
 diagnostic_fields d = pos d.row ∷ d.diagnostic.pc ∷ pos d.diagnostic.code ∷ d.diagnostic.value ∷ []
 
--- the length of such a record in bytes
+-- the length of a diagnostic's record in bytes
 abbrev pub diagnostic_bytes : ℕ
 diagnostic_bytes = 16

@@ -8,12 +8,12 @@ use Rattle.opcodes.specs.declared.OpcodeField.{OpcodeField}
 use Rattle.opcodes.specs.declared.OpcodeField.TheVariants.{Known, Unknown}
 use Rattle.opcodes.specs.declared.RawInstruction51.{RawInstruction51}
 
--- an opcode counts by whether it is known and has a register A,
+-- the weight by whether an opcode is known and has a register A
 unfoldable pub kind_weight : OpcodeField → ℕ
 kind_weight (Known o) = cond (a_is_register o) 17 19
 kind_weight (Unknown n) = 23
 
--- and an unknown one also by its number
+-- the number of an unknown opcode, and 0 for a known one
 unfoldable pub unknown_number : OpcodeField → ℕ
 unknown_number (Known o) = 0
 unknown_number (Unknown n) = n

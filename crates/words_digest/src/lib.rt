@@ -8,7 +8,7 @@ ghost use Rattle.words_digest.specs.Digest.{digest, kind_weight, opcode_weight, 
 use base::bytes::{i32_bits, read_u32};
 use opcodes::{OpcodeField, RawInstruction51};
 
-// The digest of the words, four bytes each. Bytes past the last whole word count for nothing.
+// The digest of the words, four bytes each. Bytes past the last whole word are left out.
 #[unsafe(no_mangle)]
 pub extern "C" fn words_digest(words: &[u8]) -> u64
     ensures { result ≡ digest (u32s words.now) }
@@ -44,7 +44,7 @@ fn weigh_opcode(o: OpcodeField) -> u64
     weigh_kind(o) + unknown_number(o)
 }
 
-// By whether it is known and has a register A,
+// The weight by whether an opcode is known and has a register A.
 #[tactic(auto, unfolding(crate::specs::Digest::kind_weight))]
 fn weigh_kind(o: OpcodeField) -> u64
     ensures value { result ≡ kind_weight o }
@@ -57,7 +57,7 @@ fn weigh_kind(o: OpcodeField) -> u64
     }
 }
 
-// and the number of an unknown one.
+// The number of an unknown opcode, and 0 for a known one.
 #[tactic(auto, unfolding(crate::specs::Digest::unknown_number))]
 fn unknown_number(o: OpcodeField) -> u64
     ensures value { result ≡ unknown_number o }

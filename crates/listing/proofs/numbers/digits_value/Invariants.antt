@@ -1,4 +1,4 @@
--- What the digits from an index on make of the value so far.
+-- The digits that are left go on from the value so far.
 use Rattle.std.proofs.Common.{◌≡◌, ◌^◌, ◌<◌, drop}
 use Rattle.listing_spec.specs.Text.{value_of}
 use Rattle.listing.proofs.DigitLaws.{value_from}

@@ -29,15 +29,15 @@ invariant_of-image-2 c =
 pub validate_once-requires : goal.validate_once-requires
 validate_once-requires c =
     let i = image_of c.args.table.now c.args.words.now c.args.warnings c.args.errors in
-    most_fit i c.args.roles.now _ c.write_roles.ensures.result_value _ _ c.in_ok-write_roles.was c.if-diagnostics-ge-MOST_DIAGNOSTICS.true
+    most_fit i c.args.roles.now _ c.write_roles.ensures.result_value _ _ c.in_ok-write_roles.was c.if-diagnostics-ge-MAX_DIAGNOSTICS.true
 
-pub returns-then-diagnostics-ge-MOST_DIAGNOSTICS : goal.returns-then-diagnostics-ge-MOST_DIAGNOSTICS
-returns-then-diagnostics-ge-MOST_DIAGNOSTICS c =
+pub returns-then-diagnostics-ge-MAX_DIAGNOSTICS : goal.returns-then-diagnostics-ge-MAX_DIAGNOSTICS
+returns-then-diagnostics-ge-MAX_DIAGNOSTICS c =
     let i = image_of c.args.table.now c.args.words.now c.args.warnings c.args.errors in
     let records = c.args.roles.now in
     let w = c.write_roles.ensures in
     let once = c.validate_once.ensures in
-    let fit = most_fit i records _ w.result_value _ _ c.in_ok-write_roles.was c.if-diagnostics-ge-MOST_DIAGNOSTICS.true in
+    let fit = most_fit i records _ w.result_value _ _ c.in_ok-write_roles.was c.if-diagnostics-ge-MAX_DIAGNOSTICS.true in
     let r = answered_call i records _ w.result_value _ _ c.args.diagnostics.now _ c.in_ok-write_roles.was (accepted_long i c.args.diagnostics.now _ _ fit once.result_value once.diagnostics_after) in
     record { result_value = r.0; roles_after = w.roles_after; diagnostics_after = r.1; guarantee = guaranteed i _ _ _ r.0 }
 

@@ -1,5 +1,5 @@
--- An accepted table has at most so many rows.
-use Rattle.validator.proofs.ReadyLaws.{few_rows}
+-- An accepted table has at most `max_rows` rows.
+use Rattle.validator.proofs.NextRowLaws.{few_rows}
 use Rattle.validator.proofs.calls.validate_rows.Goals as goal
 
 pub validate_within-requires-else-image-le-FEW_ROWS-clause-rows : goal.validate_within-requires-else-image-le-FEW_ROWS-clause-rows

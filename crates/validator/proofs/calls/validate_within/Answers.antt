@@ -2,7 +2,7 @@
 use Rattle.std.proofs.Common.{ℕ, arith}
 use lib.ListN.{length-replicate}
 use Rattle.validator.proofs.CheckLaws.{some_row, start_begins, walked}
-use Rattle.validator.proofs.ReadyLaws.{in_order}
+use Rattle.validator.proofs.NextRowLaws.{in_order}
 use Rattle.validator.proofs.calls.validate_within.Goals as goal
 
 pub count_children-requires : goal.count_children-requires

@@ -1,4 +1,4 @@
--- The row takes the pending rows that are one deeper, and is one more of its own depth: the lists stay long enough, and the count fits.
+-- The row takes the pending rows that are one deeper, and becomes one of its own depth. The lists stay long enough, and the count fits.
 use Rattle.std.proofs.Common.{arith, length-set}
 use Rattle.validator.proofs.ChildCountLaws.{one_fits, deep_enough, row_counted}
 use Rattle.validator.proofs.child_counts.count_row.Goals as goal

@@ -1,8 +1,8 @@
 -- A row's own steps and then the rows below it; and, before each child, a test.
 use Rattle.std.proofs.Common.{sym, ◌∙◌, arith}
 use Rattle.validator.proofs.CycleLaws.{same_row, next_row, next_begins, below_walked, tested_row, tested_begins, stopped, child_stopped, rows_fall, child_passed}
-use Rattle.validator.proofs.ReadyLaws.{few_rows, ready, room}
-use Rattle.validator.proofs.RowLaws.{more, no_more, part_ended}
+use Rattle.validator.proofs.NextRowLaws.{few_rows, ready, room}
+use Rattle.validator.proofs.RowStepLaws.{more, no_more, part_ended}
 use Rattle.validator.proofs.walk.+walk.Goals as goal
 
 pub validate_children-returns-then-walk : goal.validate_children-returns-then-walk

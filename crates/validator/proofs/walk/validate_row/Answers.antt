@@ -1,5 +1,5 @@
 -- The row's parts are there and describe its prototype.
-use Rattle.validator.proofs.ReadyLaws.{ready, described, same_prototype, own_row}
+use Rattle.validator.proofs.NextRowLaws.{ready, described, same_prototype, own_row}
 use Rattle.validator.proofs.walk.validate_row.Goals as goal
 
 pub invariant_of-row-2-clause-limits : goal.invariant_of-row-2-clause-limits

@@ -1,7 +1,7 @@
 -- The prototype is read field by field.
 use Rattle.std.proofs.Common.{arith}
 use Rattle.validator.proofs.ChildCountLaws.{prototype_is}
-use Rattle.validator.proofs.ReadyLaws.{few_rows}
+use Rattle.validator.proofs.NextRowLaws.{few_rows}
 use Rattle.validator.proofs.rows.CountedImage.row_limits.Goals as goal
 
 pub overflow_cast-result : goal.overflow_cast-result

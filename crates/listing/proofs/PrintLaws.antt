@@ -26,7 +26,8 @@ use Rattle.validator_spec.specs.Walk.{Verdict, ValidForParser, Incomplete, Inval
 use Rattle.listing_spec.specs.Text.{newline, space, text, line, digits, decimal, integer, longest_number}
 use Rattle.listing_spec.specs.Packcheck.{code_names, code_name, verdict_name, refusal_text, diagnostic_text, result_text, diagnostic_names, longest_name, verdict_names}
 use Rattle.listing.specs.declared.printer.Printer.{Printer}
-use Rattle.listing.specs.Terms.{Prints, longest_diagnostic, longest_answer, code_room, signed_room, number_room, verdict_room, refusal_room}
+use Rattle.listing.specs.Terms.{Prints, longest_diagnostic, longest_answer, code_room, signed_room, verdict_room, refusal_room}
+use Rattle.listing_spec.specs.Text.{number_room}
 use Rattle.validator_spec.specs.Records.{signed, diagnostic_in, diagnostics_in}
 
 -- ---- one after the other

@@ -9,7 +9,7 @@ use Rattle.roles_spec.specs.Refusals.{Refused}
 use Rattle.roles_spec.specs.Table.{row_bytes}
 use Rattle.validator_spec.specs.Image.{Image}
 use Rattle.validator_spec.specs.Walk.{diagnostic_bytes}
-use Rattle.listing_spec.specs.Text.{newline, is_decimal, value_of, longest_number}
+use Rattle.listing_spec.specs.Text.{newline, is_decimal, value_of, number_room}
 use Rattle.listing_spec.specs.Longest.{input_bytes}
 use Rattle.listing_spec.specs.Packcheck.{diagnostic_names, verdict_names, longest_name, max_listing_diagnostics, packcheck}
 use Rattle.listing_spec.specs.Listing.{Read, done, stopped, and_then, read_rows, read_words, max_listing_rows, max_listing_words}
@@ -95,10 +95,7 @@ pub record Prints (old : Printer) (t : List ℕ) (new : Printer) : Type 0 where
 abbrev pub records : List ℕ → ℕ
 records buffer = length buffer / diagnostic_bytes
 
--- room for a number, a signed number, a code's name, a verdict's name, each with the byte after it
-abbrev pub number_room : ℕ
-number_room = longest_number + 1
-
+-- room for a signed number, a code's name, a verdict's name, each with the byte after it
 abbrev pub signed_room : ℕ
 signed_room = number_room + 1
 

@@ -1,7 +1,8 @@
 // Text into a byte buffer. Decimals and names are printed by hand: nothing promises that a `write!` is `Ok`, or that `InlineText::of` cuts no text that fits,
 // and here every output must be whole.
 ghost use Rattle.std.specs.Prelude.{◌≡◌, [], ◌∷◌, ◌++◌, length};
-ghost use Rattle.listing.specs.Terms.{HasRoomFor, Prints, code_room, number_room, signed_room};
+ghost use Rattle.listing.specs.Terms.{HasRoomFor, Prints, code_room, signed_room};
+ghost use Rattle.listing_spec.specs.Text.{number_room};
 ghost use Rattle.validator_spec.specs.Records.{signed};
 ghost use Rattle.listing_spec.specs.Packcheck.{code_name};
 ghost use Rattle.listing_spec.specs.Text.{decimal, digits, integer, text as text_of};

@@ -48,9 +48,13 @@ decimals (suc left) cs =
     cond (is_decimal ds && eqb (get_or rest 0 0) (separator left)) (cons_number (value_of 10 ds) more) none
 
 -- "words are eight lower-case hexadecimal digits"
+abbrev pub word_digits : ℕ
+word_digits = 8
+
 unfoldable pub hex_word : List ℕ → Option ℕ
 hex_word l =
-    cond (eqb (length l) 9 && every is_hex_digit (take 8 l) && eqb (get_or l 8 0) newline) (some (value_of 16 (take 8 l))) none
+    let ds = take word_digits l in
+    cond (eqb (length l) (word_digits + 1) && every is_hex_digit ds && eqb (get_or l word_digits 0) newline) (some (value_of 16 ds)) none
 
 -- ---- reading
 

@@ -2,19 +2,19 @@
 use Rattle.std.specs.Prelude.{ℕ, ◌+◌, ◌*◌, ◌≡◌, List, take}
 use Prim.Native.String.{len}
 use Rattle.roles_spec.specs.Table.{row_fields}
-use Rattle.listing_spec.specs.Text.{longest_number}
-use Rattle.listing_spec.specs.Listing.{incoming_names, row_names, word_names, max_listing_rows, max_listing_words}
+use Rattle.listing_spec.specs.Text.{number_room}
+use Rattle.listing_spec.specs.Listing.{incoming_names, row_names, word_names, word_digits, max_listing_rows, max_listing_words}
 use Rattle.listing_spec.specs.Packcheck.{packcheck}
 
 -- ---- the most bytes of lines in form
 
 -- `count` numbers, each with the byte after it
 abbrev pub longest_numbers : ℕ → ℕ
-longest_numbers count = (longest_number + 1) * count
+longest_numbers count = number_room * count
 
--- eight digits and the newline
+-- the digits of a word and the newline
 abbrev pub longest_word : ℕ
-longest_word = 9
+longest_word = word_digits + 1
 
 -- the lines before the rows: names, what came in, names
 abbrev pub longest_head : ℕ

@@ -75,6 +75,10 @@ digits (suc most) n = let front = digits most (n / 10) in cond (ltb n 10) [] fro
 abbrev pub longest_number : ℕ
 longest_number = 10
 
+-- the most bytes of a number and the byte after it
+abbrev pub number_room : ℕ
+number_room = longest_number + 1
+
 -- a number of at most `longest_number` digits
 unfoldable pub decimal : ℕ → List ℕ
 decimal n = digits longest_number n

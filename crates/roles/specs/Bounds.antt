@@ -29,6 +29,14 @@ HasWord code pc = pc < length code / 4
 abbrev pub HasRecord : ℕ → ℕ → List ℕ → Type 0
 HasRecord size i buffer = size * i + size ≤ length buffer
 
+-- `count` records of `size` bytes each fit into a buffer
+abbrev pub RecordsFit : ℕ → ℕ → List ℕ → Type 0
+RecordsFit size count buffer = size * count ≤ length buffer
+
+-- an image may have a word at pc
+abbrev pub SmallPc : ℕ → Type 0
+SmallPc pc = 4 * pc < max_word_bytes
+
 -- words, and a buffer of their roles, reach as far as word n
 abbrev pub ReachWord : ℕ → List ℕ → List ℕ → Type 0
 ReachWord n words roles = (4 * n ≤ length words) × (role_bytes * n ≤ length roles)

@@ -4,7 +4,7 @@ ghost use Rattle.std.specs.Int.{from_bool};
 ghost use Rattle.base.specs.Bytes.{overwrite, u32_record, u32s};
 ghost use Rattle.roles_spec.specs.Bindings.{binding_bytes, binding_records, unbound};
 ghost use Rattle.roles_spec.specs.Refusals.{max_word_bytes};
-ghost use Rattle.roles.specs.Bounds.{FewWords, HasRecord, HasWord};
+ghost use Rattle.roles.specs.Bounds.{FewWords, HasRecord, HasWord, RecordsFit};
 ghost use Rattle.roles.specs.BindingSteps.{Bindable, bound_by, bound_claim, bound_from, max_bindings};
 
 use crate::discovery::Companions;
@@ -17,7 +17,7 @@ pub const BINDING_BYTES: usize = 12;
 // Writes `count` records of upvalues that nothing binds. (Each is written by its number, as binding words write theirs: one function for both.)
 #[tactic(auto, using(roles_spec::proofs::BindingRecordLaws::unbound_none, roles_spec::proofs::BindingRecordLaws::unbound_next))]
 pub fn unbind(bindings: &mut [u8], count: usize)
-    requires { binding_bytes * count ≤ length bindings.old }
+    requires { RecordsFit binding_bytes count bindings.old }
     ensures { bindings.new ≡ overwrite bindings.old 0 (binding_records (replicate count unbound)) }
 {
     for i in 0..count {
@@ -51,7 +51,7 @@ pub fn bind_claim(bindings: &mut [u8], base: usize, companions: Companions, word
 
 // Binds the upvalues of a child in the part of the buffer that has the child's records.
 fn bind_child(bindings: &mut [u8], first: usize, upvalues: usize, words: &CompanionWords)
-    requires { (words.now.existing ≤ upvalues) × (binding_bytes * (first + upvalues) ≤ length bindings.old) }
+    requires { (words.now.existing ≤ upvalues) × RecordsFit binding_bytes (first + upvalues) bindings.old }
     ensures { bindings.new ≡ bound_from (u32s words.now.code.now) (words.now.pc + 1) first words.now.existing bindings.old }
 {
     bind_words(
@@ -63,7 +63,7 @@ fn bind_child(bindings: &mut [u8], first: usize, upvalues: usize, words: &Compan
 // Each of the companions sets a record, in order.
 #[tactic(auto, using(crate::proofs::BindingStepLaws::bound_none, crate::proofs::BindingStepLaws::bound_more))]
 fn bind_words(records: &mut [u8], words: &CompanionWords)
-    requires { binding_bytes * words.now.existing ≤ length records.old }
+    requires { RecordsFit binding_bytes words.now.existing records.old }
     ensures { records.new ≡ bound_from (u32s words.now.code.now) (words.now.pc + 1) 0 words.now.existing records.old }
 {
     for j in 0..words.existing {

@@ -9,7 +9,7 @@ use Rattle.base.specs.Lists.{take_while}
 use Rattle.base.proofs.ListLaws.{select_most, take_while_most}
 use Rattle.roles_spec.proofs.RefusalLaws.{depth_kept}
 use Rattle.roles_spec.proofs.TableLaws.{length_rows, drop_rows, children_end, children_found, children_deeper}
-use Rattle.validator.specs.Terms.{child_count, Ordered, Counted, row_limits}
+use Rattle.validator.specs.Terms.{depths, child_count, Ordered, Counted, row_limits}
 
 -- how many children of a row of this depth stand in the rows from i on
 abbrev from : List ℕ → ℕ → ℕ → ℕ
@@ -68,12 +68,12 @@ module _ (table : List ℕ) (depth at : ℕ) (there : at < length table / row_by
 
 -- ---- the pass
 
-pub counts_begin : (table counts pending : List ℕ) (row : ℕ) → row ≡ length table / row_bytes → length table / row_bytes ≤ length counts → pending ≡ replicate 201 0 → Counted table row counts pending
+pub counts_begin : (table counts pending : List ℕ) (row : ℕ) → row ≡ length table / row_bytes → length table / row_bytes ≤ length counts → pending ≡ replicate depths 0 → Counted table row counts pending
 counts_begin table counts pending row e room zeros =
-    let none : (i : ℕ) → i < 201 → get_or pending i 0 ≡ 0 = λ i l. ap (λ (xs : List ℕ). get_or xs i 0) zeros ∙ get_or-replicate {A = ℕ} 201 i 0 0 l in
+    let none : (i : ℕ) → i < depths → get_or pending i 0 ≡ 0 = λ i l. ap (λ (xs : List ℕ). get_or xs i 0) zeros ∙ get_or-replicate {A = ℕ} depths i 0 0 l in
     record {
       room = room;
-      deep = ap length zeros ∙ length-replicate {A = ℕ} 201 0;
+      deep = ap length zeros ∙ length-replicate {A = ℕ} depths 0;
       counted = λ i l m. absurd (omega arith);
       opened = λ d l. none (suc d) (omega arith) ∙ sym (from_end table d row (omega arith));
       roots = omega (arith, none 0 (omega arith));
@@ -99,7 +99,7 @@ module _ (table counts pending : List ℕ) (row : ℕ) (ordered : Ordered table)
   same_as = get_or-set_other pending (d + 1) d 0 0 (λ f. omega arith)
 
   -- the pending rows of a depth, from the next row on
-  later : (n : ℕ) → n < 200 → get_or pending (suc n) 0 ≡ from table n (suc row)
+  later : (n : ℕ) → n < max_depth + 1 → get_or pending (suc n) 0 ≡ from table n (suc row)
   later n l = v.opened n l ∙ ap (from table n) (add-one row)
 
   few : (n : ℕ) → n ≤ max_depth → get_or pending n 0 ≤ max_rows
@@ -123,7 +123,7 @@ module _ (table counts pending : List ℕ) (row : ℕ) (ordered : Ordered table)
       go false t = from_end table n (suc row) (ltb-false (suc row) (length table / row_bytes) t)
 
   -- the row takes its children from the pending rows, and becomes one of its own depth
-  taken : (n : ℕ) → n < 200 → get_or (set (set pending (d + 1) 0) d (same + 1)) (suc n) 0 ≡ from table n row
+  taken : (n : ℕ) → n < max_depth + 1 → get_or (set (set pending (d + 1) 0) d (same + 1)) (suc n) 0 ≡ from table n row
   taken n l = go (eqb (suc n) d) (eqb n d) (ltb n d) refl refl refl
     where
       go : (a b c : Bool) → eqb (suc n) d ≡ a → eqb n d ≡ b → ltb n d ≡ c → get_or (set (set pending (d + 1) 0) d (same + 1)) (suc n) 0 ≡ from table n row

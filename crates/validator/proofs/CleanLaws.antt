@@ -19,7 +19,7 @@ use Rattle.validator_spec.specs.Operands.{is_jump, is_skip, is_loadbool_skip, sk
 use Rattle.validator_spec.specs.Rules.{Below, Lands, JumpKept, BindingKept, registers_of, constants_of}
 use Rattle.validator_spec.specs.Diagnostics.{diagnostics_at}
 use Rattle.validator_spec.proofs.RuleDiagnosticLaws.{known_none}
-use Rattle.validator.specs.Clean.{FlowKept, OperandsBelow, limits_of, names_nothing, slot, shapes}
+use Rattle.validator.specs.Clean.{FlowKept, OperandsBelow, slot_limits, names_nothing, slot, shapes}
 use Rattle.validator.specs.Terms.{Describes, HasLimits, Stands}
 use Rattle.validator.specs.declared.clean.Flow.{Flow}
 use Rattle.validator.specs.declared.clean.Flow.TheVariants.{Next, Target, Past}
@@ -83,7 +83,7 @@ way_past (Past j) k e = ap Past (omega (arith, e))
 
 module _ (q : RowLimits) (w : ℕ) where
   abbrev limit : ℕ → ℕ
-  limit k = get_or (limits_of q) k 0
+  limit k = get_or (slot_limits q) k 0
 
   -- a value is below the limit that its opcode has a slot of
   at : (x slot k : ℕ) → ltb x (limit slot) ≡ true → slot ≡ k → x < limit k
@@ -91,11 +91,11 @@ module _ (q : RowLimits) (w : ℕ) where
 
   module _ (h : ltb (field_a w) (limit (slot (names (opcode w)).a)) ≡ true) where
     flag : Below flag_limit (flag_a w)
-    unfolding flag_a is shapes limits_of
+    unfolding flag_a is shapes slot_limits
     flag = below_if _ _ _ (λ t. at _ _ 8 h (has (EQ ∷ LT ∷ LE ∷ []) (λ n. slot (names n).a) 8 (opcode w) tt t))
 
     register : opcode w < opcode_count → Below q.stack (register_a w)
-    unfolding register_a is shapes limits_of
+    unfolding register_a is shapes slot_limits
     register known =
         below_if _ _ _ (λ t.
         let rest = t_false (elem (opcode w) without_a) (t_and (not (is_unknown w)) (not (elem (opcode w) without_a)) t).1 in
@@ -104,11 +104,11 @@ module _ (q : RowLimits) (w : ℕ) where
 
   module _ (h : ltb (field_bx w) (limit (slot (names (opcode w)).bx)) ≡ true) where
     constant : Below q.constants (constant_bx w)
-    unfolding constant_bx is shapes limits_of
+    unfolding constant_bx is shapes slot_limits
     constant = below_if _ _ _ (λ t. at _ _ 5 h (has (LOADK ∷ GETGLOBAL ∷ SETGLOBAL ∷ []) (λ n. slot (names n).bx) 5 (opcode w) tt t))
 
     child : Below q.children (child_bx w)
-    unfolding child_bx is shapes limits_of
+    unfolding child_bx is shapes slot_limits
     child = below_if _ _ _ (λ t. at _ _ 9 h (has (CLOSURE ∷ []) (λ n. slot (names n).bx) 9 (opcode w) tt t))
 
   -- B or C
@@ -129,7 +129,7 @@ module _ (q : RowLimits) (w : ℕ) where
 
     module _ (fixed : T (is w f.fixed) → slot ≡ 2) (rk : T (is w f.rk) → slot ≡ 4) where
       field_register : Below q.stack (register_in f w)
-      unfolding register_in is_constant limits_of
+      unfolding register_in is_constant slot_limits
       field_register =
           below_if _ _ _
           (by_or (is w f.fixed) (is w f.rk && not (leb 256 (operand f w)))
@@ -142,7 +142,7 @@ module _ (q : RowLimits) (w : ℕ) where
           subst (λ (n : ℕ). n < q.stack) same (at (operand f w % 256) (slot + operand f w / 256) 4 h (omega arith))))
 
       field_constant : Below q.constants (constant_in f w)
-      unfolding constant_in is_constant constant_index limits_of
+      unfolding constant_in is_constant constant_index slot_limits
       field_constant =
           below_if _ _ _ (λ t.
           let both = t_and (is w f.rk) (leb 256 (operand f w)) t in
@@ -152,7 +152,7 @@ module _ (q : RowLimits) (w : ℕ) where
           rw (t_true (leb 256 (operand f w)) both.1) (subst (λ (n : ℕ). n < q.constants) same (at (operand f w % 256) (slot + operand f w / 256) 5 h (omega (arith, operand_below f w)))))
 
   upvalue : ltb (operand B w % 256) (limit (slot (names (opcode w)).b + operand B w / 256)) ≡ true → Below q.upvalues (upvalue_b w)
-  unfolding upvalue_b is shapes limits_of
+  unfolding upvalue_b is shapes slot_limits
   upvalue h = below_if _ _ _ (λ t. plain B _ h 6 (has (GETUPVAL ∷ SETUPVAL ∷ []) (λ n. slot (names n).b) 6 (opcode w) tt t) refl)
 
   -- the spans that B and C end
@@ -211,9 +211,9 @@ bounded : (f : ℕ → ℕ) (k n : ℕ) → T (every (λ m. ltb (f m) k) (up_fro
 bounded f k n t h = ltb→lt (f n) k (up_to (λ m. ltb (f m) k) 0 opcode_count n t (omega arith) h)
 
 module _ (q : RowLimits) (limits : List ℕ) (s : Shape) (w : RawInstruction51)
-    (known : limits ≡ limits_of q) (pre : (w ≡ decoded w.raw) × (w.opcode_num < opcode_count) × (s ≡ names w.opcode_num)) where
+    (known : limits ≡ slot_limits q) (pre : (w ≡ decoded w.raw) × (w.opcode_num < opcode_count) × (s ≡ names w.opcode_num)) where
   ten : length limits ≡ 10
-  unfolding limits_of
+  unfolding slot_limits
   ten = ap length known
 
   pub slot_a : slot s.a < length limits
@@ -245,16 +245,16 @@ module _ (q : RowLimits) (limits : List ℕ) (s : Shape) (w : RawInstruction51)
       (span_of _ _ (λ s. s.b_span) (split_b w pre.0) sb) (span_of _ _ (λ s. s.c_span) (split_c w pre.0) sc)
     where
       -- a test with a slot and a value
-      as_known : (x y : ℕ) (f : Shape → ℕ) → x ≡ y → ltb x (get_or limits (f s) 0) ≡ true → ltb y (get_or (limits_of q) (f (names (opcode w.raw))) 0) ≡ true
+      as_known : (x y : ℕ) (f : Shape → ℕ) → x ≡ y → ltb x (get_or limits (f s) 0) ≡ true → ltb y (get_or (slot_limits q) (f (names (opcode w.raw))) 0) ≡ true
       as_known x y f e h =
-          ap (λ (n : ℕ). ltb n (get_or (limits_of q) (f (names (opcode w.raw))) 0)) (sym e)
-          ∙ ap (λ (n : Shape). ltb x (get_or (limits_of q) (f n) 0)) (sym of_opcode)
+          ap (λ (n : ℕ). ltb n (get_or (slot_limits q) (f (names (opcode w.raw))) 0)) (sym e)
+          ∙ ap (λ (n : Shape). ltb x (get_or (slot_limits q) (f n) 0)) (sym of_opcode)
           ∙ ap (λ (l : List ℕ). ltb x (get_or l (f s) 0)) (sym known)
           ∙ h
 
-      field_of : (x y : ℕ) (f : Shape → ℕ) → x ≡ y → ltb (x % 256) (get_or limits (f s + x / 256) 0) ≡ true → ltb (y % 256) (get_or (limits_of q) (f (names (opcode w.raw)) + y / 256) 0) ≡ true
+      field_of : (x y : ℕ) (f : Shape → ℕ) → x ≡ y → ltb (x % 256) (get_or limits (f s + x / 256) 0) ≡ true → ltb (y % 256) (get_or (slot_limits q) (f (names (opcode w.raw)) + y / 256) 0) ≡ true
       field_of x y f e h =
-          subst (λ (z : ℕ). ltb (z % 256) (get_or (limits_of q) (f (names (opcode w.raw)) + z / 256) 0) ≡ true) e (as_known (x % 256) (x % 256) (λ n. f n + x / 256) refl h)
+          subst (λ (z : ℕ). ltb (z % 256) (get_or (slot_limits q) (f (names (opcode w.raw)) + z / 256) 0) ≡ true) e (as_known (x % 256) (x % 256) (λ n. f n + x / 256) refl h)
 
       span_of : (x y : ℕ) (f : Shape → ℕ) → x ≡ y → leb (w.a + f s / 2 + f s % 2 * x) (q.stack + 1) ≡ true
           → leb (field_a w.raw + f (names (opcode w.raw)) / 2 + f (names (opcode w.raw)) % 2 * y) (q.stack + 1) ≡ true

@@ -18,8 +18,8 @@ no_limit = 262144
 
 -- the limits of operands, by their slots: of a field that names nothing, a register, an RK operand, an upvalue (two slots each, the second for values
 -- that have the bit of a constant), a flag, a child
-unfoldable pub limits_of : RowLimits → List ℕ
-limits_of q = no_limit ∷ no_limit ∷ q.stack ∷ 0 ∷ q.stack ∷ q.constants ∷ q.upvalues ∷ 0 ∷ flag_limit ∷ q.children ∷ []
+unfoldable pub slot_limits : RowLimits → List ℕ
+slot_limits q = no_limit ∷ no_limit ∷ q.stack ∷ 0 ∷ q.stack ∷ q.constants ∷ q.upvalues ∷ 0 ∷ flag_limit ∷ q.children ∷ []
 
 -- the slot of each limit in this list
 abbrev pub slot : Limit → ℕ

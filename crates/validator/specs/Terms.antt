@@ -8,7 +8,7 @@ use Rattle.opcodes.specs.declared.OpcodeField.TheVariants.{Known}
 use Rattle.opcodes.specs.declared.RawInstruction51.{RawInstruction51}
 use Rattle.roles_spec.specs.Table.{Proto, row_at, rows, children, row_count}
 use Rattle.roles_spec.specs.Roles.{role_at, role_in}
-use Rattle.roles_spec.specs.Refusals.{bad_depth}
+use Rattle.roles_spec.specs.Refusals.{bad_depth, max_depth}
 use Rattle.roles_spec.specs.Calls.{Answer, refused, accepted}
 use Rattle.roles.specs.Bounds.{CoversRows, FewRows, HasRow}
 use Rattle.roles.specs.Terms.{refused_of}
@@ -113,13 +113,17 @@ pub record Ordered (table : List ℕ) : Type 0 where
   pub depths : bad_depth 0 0 (rows table) ≡ none
   pub few : FewRows table
 
+-- the depths that a row can have, and one more
+abbrev pub depths : ℕ
+depths = max_depth + 2
+
 -- the rows from `row` on were counted: `counts` has the number of children of each; `pending` has, at each depth but 0, how many of these rows have
 -- this depth and stand before any that is less deep, and at depth 0 at most as many as were counted
 pub record Counted (table : List ℕ) (row : ℕ) (counts pending : List ℕ) : Type 0 where
   pub room : CoversRows table (length counts)
-  pub deep : length pending ≡ 201
+  pub deep : length pending ≡ depths
   pub counted : (i : ℕ) → row ≤ i → HasRow table i → slice_index counts i ≡ child_count table i
-  pub opened : (d : ℕ) → d < 200 → slice_index pending (suc d) ≡ length (children d (drop row (rows table)))
+  pub opened : (d : ℕ) → d < max_depth + 1 → slice_index pending (suc d) ≡ length (children d (drop row (rows table)))
   pub roots : slice_index_or pending 0 0 + row ≤ row_count table
 
 -- the limits of a prototype's operands are these

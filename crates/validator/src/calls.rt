@@ -19,7 +19,7 @@ use crate::rows::CountedImage;
 use crate::state::WalkState;
 use crate::walk::validate_proto;
 use roles::calls::write_roles;
-use roles::refusals::{FEW_ROWS, MAX_ROWS, Refusal};
+use roles::refusals::{FEW_ROWS, MAX_ROWS, MAX_UPVALUES, Refusal};
 use roles::table::ROW_BYTES;
 
 // The length of a record in bytes.
@@ -29,7 +29,7 @@ pub const DIAGNOSTIC_BYTES: usize = 16;
 const DIAGNOSTIC_LIMIT: u64 = 10000;
 
 // No image has more diagnostics: 9,999 before its last test, and a word that has 256.
-const MAX_DIAGNOSTICS: usize = 10255;
+const MAX_DIAGNOSTICS: usize = DIAGNOSTIC_LIMIT as usize + MAX_UPVALUES as usize;
 
 // What the check says of an image.
 #[derive(Clone, Copy, PartialEq, Eq, Debug)]

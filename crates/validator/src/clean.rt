@@ -7,11 +7,11 @@ ghost use Rattle.opcodes.specs.Words.{decoded, offset_sbx, opcode_count};
 ghost use Rattle.roles_spec.specs.Refusals.{max_word_bytes};
 ghost use Rattle.roles_spec.specs.Roles.{Executable};
 ghost use Rattle.roles_spec.specs.Table.{Proto};
-ghost use Rattle.roles.specs.Bounds.{HasWord};
+ghost use Rattle.roles.specs.Bounds.{HasWord, SmallPc};
 ghost use Rattle.validator_spec.specs.Diagnostics.{diagnostics_at};
 ghost use Rattle.validator_spec.specs.Rules.{Lands};
 ghost use Rattle.validator.specs.Terms.{Describes, Stands};
-ghost use Rattle.validator.specs.Clean.{FlowKept, OperandsBelow, limits_of, names_nothing, no_limit, slot, shapes};
+ghost use Rattle.validator.specs.Clean.{FlowKept, OperandsBelow, slot_limits, names_nothing, no_limit, slot, shapes};
 
 use crate::operands::FLAG_LIMIT;
 use crate::rows::Body;
@@ -241,7 +241,7 @@ pub fn next_suspect(body: &Body, from: usize) -> usize
     ensures executable { result < length body.now.code.now / 4 → (p : Proto) → Describes p body.now.limits body.now.code.now body.now.roles.now → Executable p result }
 {
     let row = body.limits;
-    let limits = [
+    let slots = [
         NO_LIMIT,
         NO_LIMIT,
         row.stack,
@@ -255,7 +255,7 @@ pub fn next_suspect(body: &Body, from: usize) -> usize
     ];
     let test = CleanTest {
         body,
-        limits: &limits,
+        slots: &slots,
     };
     let n = body.code.len() / 4;
     for pc in from..n {
@@ -270,8 +270,8 @@ pub fn next_suspect(body: &Body, from: usize) -> usize
 #[derive(Clone, Copy)]
 struct CleanTest<'a> {
     body: &'a Body<'a>,
-    limits: &'a [u32],
-    ghost limits_of_body: { limits.now ≡ limits_of body.now.limits },
+    slots: &'a [u32],
+    ghost slots_of_body: { slots.now ≡ slot_limits body.now.limits },
 }
 
 impl<'a> CleanTest<'a> {
@@ -298,31 +298,31 @@ impl<'a> CleanTest<'a> {
         requires { (w ≡ decoded w.raw) × (w.opcode_num < opcode_count) × (shape ≡ slice_index_or shapes w.opcode_num names_nothing) }
         ensures { result ≡ true → OperandsBelow self.now.body.now.limits w.raw }
     {
-        let limits = self.limits;
+        let slots = self.slots;
         let stack = self.body.limits.stack;
-        is_below(limits, shape.a, w.a as u32)
-            && is_below(limits, shape.bx, w.bx)
-            && field_below(limits, shape.b, w.b)
-            && field_below(limits, shape.c, w.c)
+        is_below(slots, shape.a, w.a as u32)
+            && is_below(slots, shape.bx, w.bx)
+            && field_below(slots, shape.b, w.b)
+            && field_below(slots, shape.c, w.c)
             && span_below(stack, shape.b_span, w.a, w.b)
             && span_below(stack, shape.c_span, w.a, w.c)
     }
 }
 
 // Whether a value is below this limit.
-fn is_below(limits: &[u32], limit: Limit, value: u32) -> bool
-    requires { slot limit < length limits.now }
-    ensures { result ≡ nat_lt value (slice_index limits.now (slot limit)) }
+fn is_below(slots: &[u32], limit: Limit, value: u32) -> bool
+    requires { slot limit < length slots.now }
+    ensures { result ≡ nat_lt value (slice_index slots.now (slot limit)) }
 {
-    value < limits[limit.slot()]
+    value < slots[limit.slot()]
 }
 
 // Whether B or C is below its limit. The limit of a value with the bit of a constant is in the next slot.
-fn field_below(limits: &[u32], limit: Limit, value: u16) -> bool
-    requires { (slot limit + 1 < length limits.now) × (value < 512) }
-    ensures { result ≡ nat_lt (value % 256) (slice_index limits.now (slot limit + value / 256)) }
+fn field_below(slots: &[u32], limit: Limit, value: u16) -> bool
+    requires { (slot limit + 1 < length slots.now) × (value < 512) }
+    ensures { result ≡ nat_lt (value % 256) (slice_index slots.now (slot limit + value / 256)) }
 {
-    ((value % 256) as u32) < limits[limit.slot() + (value / 256) as usize]
+    ((value % 256) as u32) < slots[limit.slot() + (value / 256) as usize]
 }
 
 // Whether the span that a field of this value ends is below the stack.
@@ -335,7 +335,7 @@ fn span_below(stack: u32, span: u8, a: u8, value: u16) -> bool
 
 // Whether the word has no target or an executable one, and skips to no companion and owns none.
 fn goes_to_word(body: &Body, flow: Flow, pc: u32, bx: u32) -> bool
-    requires { (4 * pc < max_word_bytes) × (bx < no_limit) }
+    requires { SmallPc pc × (bx < no_limit) }
     ensures { (p : Proto) → Stands p body.now.limits body.now.roles.now → result ≡ true → FlowKept p flow pc bx }
 {
     match flow {

@@ -2,7 +2,7 @@
 ghost use Rattle.std.specs.Prelude.{◌≡◌, ◌+◌, ◌-◌, ◌*◌, ◌<◌, ◌≤◌, [], ◌∷◌, ◌++◌, nat_lt};
 ghost use Rattle.base.specs.Lists.{only};
 ghost use Rattle.opcodes.specs.Words.{CLOSURE, field_of, is};
-ghost use Rattle.roles_spec.specs.Refusals.{max_word_bytes};
+ghost use Rattle.roles.specs.Bounds.{SmallPc};
 ghost use Rattle.validator_spec.specs.Operands.{child_bx, constant_bx, constant_in, flag_a, is_skip, register_a, register_in, span_ends, upvalue_b};
 ghost use Rattle.validator.specs.Terms.{Decodes, as_list};
 
@@ -19,7 +19,7 @@ pub struct KnownWord {
     pub op: Opcode51,
     pub w: RawInstruction51,
     ghost decodes: { Decodes op w },
-    ghost small: { 4 * at.pc < max_word_bytes },
+    ghost small: { SmallPc at.pc },
 }
 
 impl KnownWord {

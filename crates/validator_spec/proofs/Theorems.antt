@@ -258,8 +258,8 @@ unfolding roles role_at
 companion_bits_unread p pc w t = roles_by_children (record p { code = set p.code pc w }) p refl 0 [] (set p.code pc w) ∙ companion_unread p 0 [] p.code pc w t
 
 -- not "a truncated CLOSURE leaving its existing companions unmarked": each owned word that exists has its role, truncated or not
-pub truncated_owner_marks : (p : Proto) (pc j : ℕ) → Executable p pc → j < companions p pc → role_at p (pc + 1 + j) ≡ get_or (claims p pc (word_at p pc)) j Instruction
-truncated_owner_marks p pc j x h = owned_role p pc j x h
+pub owner_marks_companions : (p : Proto) (pc j : ℕ) → Executable p pc → j < companions p pc → role_at p (pc + 1 + j) ≡ get_or (claims p pc (word_at p pc)) j Instruction
+owner_marks_companions p pc j x h = owned_role p pc j x h
 
 -- not "10,000 as a cut inside a word's findings": a step that begins below the limit adds all of its diagnostics
 pub no_cut_within_a_step : (incoming row : ℕ) (v : Walk) (s : Step) → v.ended ≡ false → count_n incoming v < diagnostic_limit

@@ -5,7 +5,7 @@ use native.Mathlib.Nat.{not-suc-le-zero, le_of_suc-le-suc}
 use native.Mathlib.Omega.{arith}
 use mathlib.Core.Path.{◌≡◌, refl, subst⁻¹}
 use mathlib.Core.Bool.{true}
-use mathlib.Core.List.{List, [], ◌∷◌, flatten, flat_map}
+use mathlib.Core.List.{List, [], ◌∷◌, flatten, flat_map, map}
 use lib.ListN.{length}
 use lib.IntN.{pos}
 use Rattle.base.specs.Lists.{only}
@@ -16,7 +16,7 @@ use Rattle.roles_spec.specs.Roles.{Executable, binding_count, has_extra, claims,
 use Rattle.roles_spec.specs.Samples.{plain_proto}
 use Rattle.roles_spec.proofs.RoleLaws.{executable, first_executable}
 use Rattle.validator_spec.specs.Operands.{is_unknown, is_binding, target, is_jump, is_skip, is_loadbool_skip, skip_target, constant_bx, upvalue_b, flag_a, register_a, span_ends, register_in, constant_in, child_bx, captured_register, captured_upvalue}
-use Rattle.validator_spec.specs.Diagnostics.{has_large_stack, truncation_at, opcode_diagnostics, jump_diagnostics, skip_diagnostics, not_below, operand_diagnostics, known_diagnostics, word_diagnostics, diagnostics_at}
+use Rattle.validator_spec.specs.Diagnostics.{Diagnostic, code_count, binding_diagnostics, opcode_value, has_large_stack, truncation_at, opcode_diagnostics, jump_diagnostics, skip_diagnostics, not_below, operand_diagnostics, known_diagnostics, word_diagnostics, diagnostics_at}
 use Rattle.validator_spec.specs.Rules.{registers_of, constants_of, WellFormed}
 use Rattle.validator_spec.specs.Executions.{ended_at, no_word_at, arrive, next, meet, run_from, run, MayLeave, SafeRun}
 use Rattle.validator_spec.specs.Statements.{large_stacks}
@@ -29,6 +29,11 @@ one_word w stack = plain_proto (w ∷ []) 0 stack []
 -- a CLOSURE of child 0, which has one upvalue, and its companion
 abbrev bound : ℕ → Proto
 bound w = plain_proto (0x00000024 ∷ w ∷ []) 0 2 (1 ∷ [])
+
+-- the last code occurs: of a companion of an unknown opcode
+pub last_code_occurs : map (λ (d : Diagnostic). d.code) (binding_diagnostics (bound 0x0000003f) 1) ≡ code_count ∷ []
+unfolding binding_diagnostics opcode_value only not_below captured_register captured_upvalue word_at is is_binding flatten
+last_code_occurs = refl
 
 -- the first word of any prototype that has one is executable
 first : (w : ℕ) (ws : List ℕ) (p : Proto) → p.code ≡ w ∷ ws → Executable p 0

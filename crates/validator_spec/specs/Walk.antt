@@ -3,6 +3,7 @@
 use Rattle.std.specs.Prelude.{ℕ, suc, ◌+◌, Bool, true, false, ◌&&◌, ◌||◌, cond, ltb, leb, length, ℤ, pos}
 use mathlib.Core.List.{List, [], ◌∷◌, ◌++◌, map, foldl}
 use Rattle.base.specs.Lists.{any}
+use Rattle.roles_spec.specs.Refusals.{max_upvalues}
 use Rattle.validator_spec.specs.Diagnostics.{Diagnostic, is_error, Step}
 
 -- a diagnostic with the row of its prototype
@@ -18,9 +19,9 @@ in_row row d = record { row = row; diagnostic = d }
 abbrev pub diagnostic_limit : ℕ
 diagnostic_limit = 10000
 
--- the most that the walk over an accepted image finds: "10,255 new ones can occur"
+-- the most that the walk over an accepted image finds: "10,255 new ones can occur". That is one below the limit, and the 256 that a word can have
 abbrev pub max_diagnostics : ℕ
-max_diagnostics = 10255
+max_diagnostics = diagnostic_limit + max_upvalues
 
 -- what the walk found, and whether a test ended it
 pub record Walk : Type 0 where

@@ -1,5 +1,5 @@
 //! What the three calls answer for an image and its buffers.
-use crate::image::{Buffers, Image, BINDING_LEN, DIAGNOSTIC_LEN};
+use crate::image::{Buffers, Image, BINDING_BYTES, DIAGNOSTIC_BYTES};
 use crate::judge::{judge, Answer};
 use crate::refusal::{image_refusal, records_refusal, roles_refusal, Refused};
 
@@ -29,8 +29,8 @@ pub fn outcomes(image: &Image, buffers: Buffers, [words, bindings, diagnostics]:
     let roles = roles_refusal(&image.table, &image.words, buffers.roles);
     [
         outcome(roles, words),
-        outcome(roles.or(records_refusal(bindings, BINDING_LEN, buffers.bindings)), bindings),
-        outcome(roles.or(records_refusal(diagnostics, DIAGNOSTIC_LEN, buffers.diagnostics)), diagnostics),
+        outcome(roles.or(records_refusal(bindings, BINDING_BYTES, buffers.bindings)), bindings),
+        outcome(roles.or(records_refusal(diagnostics, DIAGNOSTIC_BYTES, buffers.diagnostics)), diagnostics),
     ]
 }
 

@@ -1,11 +1,11 @@
 //! An image: a prototype table, its words, the incoming numbers, and the lengths of the caller's buffers.
 
 /// Bytes of one row of the prototype table.
-pub const ROW_LEN: usize = 20;
+pub const ROW_BYTES: usize = 20;
 /// Bytes of one role, binding and diagnostic record.
-pub const ROLE_LEN: usize = 8;
-pub const BINDING_LEN: usize = 12;
-pub const DIAGNOSTIC_LEN: usize = 16;
+pub const ROLE_BYTES: usize = 8;
+pub const BINDING_BYTES: usize = 12;
+pub const DIAGNOSTIC_BYTES: usize = 16;
 
 /// Lengths in bytes of the caller's three buffers.
 #[derive(Debug, Clone, Copy, PartialEq, Eq, Default)]
@@ -51,7 +51,7 @@ pub fn rows(table: &[u8]) -> Vec<Row> {
 impl Image {
     /// Whether the image is written without repetition: below 12 rows and 40 words.
     pub fn is_small(&self) -> bool {
-        self.table.len() < 12 * ROW_LEN && self.words.len() < 40 * 4
+        self.table.len() < 12 * ROW_BYTES && self.words.len() < 40 * 4
     }
 }
 

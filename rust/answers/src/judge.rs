@@ -1,6 +1,6 @@
 //! luad's own answer for an image: encoded as a binary chunk, decoded and validated by the published files.
 use crate::chunk;
-use crate::image::{rows, Image, ROW_LEN};
+use crate::image::{rows, Image, ROW_BYTES};
 use crate::limits::DIAGNOSTIC_LIMIT;
 use crate::message::{code_number, value};
 use luad::chunk::decode_chunk_lua51_with_profile;
@@ -169,7 +169,7 @@ pub fn decode(image: &Image) -> (Chunk, usize) {
 pub fn judge(image: &Image) -> Answer {
     let (chunk, incoming) = decode(image);
     let protos = preorder(&chunk.main_proto);
-    assert_eq!(protos.len(), image.table.len() / ROW_LEN, "a prototype for each row");
+    assert_eq!(protos.len(), image.table.len() / ROW_BYTES, "a prototype for each row");
     let diagnostics = diagnostics(added(&chunk.diagnostics, incoming), &protos);
     Answer { verdict: chunk.verdict, roles: roles(&protos), bindings: bindings(&protos), diagnostics }
 }

@@ -1,6 +1,6 @@
 //! The list under construction: labels, buffer lengths, and luad's answer for each image.
 use crate::calls::{answer, calls_for, Calls};
-use crate::image::{Buffers, Image, BINDING_LEN, DIAGNOSTIC_LEN, ROLE_LEN};
+use crate::image::{Buffers, Image, BINDING_BYTES, DIAGNOSTIC_BYTES, ROLE_BYTES};
 use crate::judge::Answer;
 use crate::rng::Rng;
 use std::collections::HashMap;
@@ -26,7 +26,7 @@ pub struct List<'a> {
 /// The lengths that luad's answer needs; for a refused image, some that would do.
 fn exact(image: &Image, answer: Option<&Answer>) -> [usize; 3] {
     let (bindings, diagnostics) = answer.map_or((3, 10), |answer| (answer.bindings.len(), answer.diagnostics.len()));
-    [ROLE_LEN * (image.words.len() / 4), BINDING_LEN * bindings, DIAGNOSTIC_LEN * diagnostics]
+    [ROLE_BYTES * (image.words.len() / 4), BINDING_BYTES * bindings, DIAGNOSTIC_BYTES * diagnostics]
 }
 
 /// The lengths changed by these numbers of bytes, but not below 0.

@@ -3,7 +3,7 @@
 //! Document 01 does not say where the word lines end. They are taken to go on to the end of the input, so that more or
 //! fewer of them than the rows state are refusal 6, and not a line out of form or missing.
 use crate::calls::calls;
-use crate::image::{le_bytes, Buffers, Image, DIAGNOSTIC_LEN, ROLE_LEN};
+use crate::image::{le_bytes, Buffers, Image, DIAGNOSTIC_BYTES, ROLE_BYTES};
 use crate::message::CODES;
 use crate::refusal::{Refusal, Refused};
 
@@ -111,7 +111,8 @@ fn read_listing(input: &[u8]) -> Result<Image, Refused> {
     lines.names(ROW_NAMES)?;
     let table = read_rows(&mut lines)?;
     let words = read_words(&mut lines)?;
-    let buffers = Buffers { roles: ROLE_LEN * MOST_WORDS, bindings: 0, diagnostics: DIAGNOSTIC_LEN * MOST_DIAGNOSTICS };
+    let buffers =
+        Buffers { roles: ROLE_BYTES * MOST_WORDS, bindings: 0, diagnostics: DIAGNOSTIC_BYTES * MOST_DIAGNOSTICS };
     Ok(Image { label: String::new(), warnings: incoming[0], errors: incoming[1], table, words, buffers })
 }
 

@@ -1,5 +1,5 @@
 //! The refusals 1 to 8, transcribed from document 01's table of them; luad has none.
-use crate::image::{rows, Row, ROLE_LEN, ROW_LEN};
+use crate::image::{rows, Row, ROLE_BYTES, ROW_BYTES};
 use crate::limits::{MAX_DEPTH, MAX_ROWS, MAX_WORDS};
 
 /// The refusals by their numbers in document 01; 9 and 10 are the program's.
@@ -49,10 +49,10 @@ pub fn image_refusal(table: &[u8], words: &[u8]) -> Option<Refused> {
     if table.is_empty() {
         return plain(Refusal::NoProtos);
     }
-    if table.len() % ROW_LEN != 0 {
+    if table.len() % ROW_BYTES != 0 {
         return plain(Refusal::PartialRow);
     }
-    if table.len() / ROW_LEN > MAX_ROWS || words.len() > 4 * MAX_WORDS {
+    if table.len() / ROW_BYTES > MAX_ROWS || words.len() > 4 * MAX_WORDS {
         return plain(Refusal::TooLarge);
     }
     let rows = rows(table);
@@ -71,7 +71,7 @@ pub fn image_refusal(table: &[u8], words: &[u8]) -> Option<Refused> {
 
 /// The refusals 1 to 7 of all three calls.
 pub fn roles_refusal(table: &[u8], words: &[u8], roles_len: usize) -> Option<Refused> {
-    let short = roles_len < ROLE_LEN * (words.len() / 4);
+    let short = roles_len < ROLE_BYTES * (words.len() / 4);
     image_refusal(table, words).or(if short { plain(Refusal::RoleBufferTooShort) } else { None })
 }
 

@@ -2,7 +2,7 @@
 mod declarations;
 
 use answers::calls::Outcome;
-use answers::image::{Image, BINDING_LEN, DIAGNOSTIC_LEN, ROLE_LEN};
+use answers::image::{Image, BINDING_BYTES, DIAGNOSTIC_BYTES, ROLE_BYTES};
 use declarations::{luad51_bindings, luad51_check, luad51_roles};
 use std::fmt;
 
@@ -17,7 +17,7 @@ pub enum Call {
 pub const CALLS: [Call; 3] = [Call::Roles, Call::Bindings, Call::Check];
 
 /// Bytes of a record of each kind.
-pub const RECORD_LEN: [usize; 3] = [ROLE_LEN, BINDING_LEN, DIAGNOSTIC_LEN];
+pub const RECORD_BYTES: [usize; 3] = [ROLE_BYTES, BINDING_BYTES, DIAGNOSTIC_BYTES];
 
 impl fmt::Display for Call {
     fn fmt(&self, f: &mut fmt::Formatter) -> fmt::Result {

@@ -4,7 +4,7 @@ use answers::image::{Buffers, Image};
 use answers::judge::Answer;
 use answers::limits::MAX_DIAGNOSTICS;
 use answers::rng::Rng;
-use archive::RECORD_LEN;
+use archive::RECORD_BYTES;
 
 pub struct Case {
     pub image: Image,
@@ -30,7 +30,7 @@ impl Records {
 
     /// How many there are of each kind.
     pub fn counts(&self) -> [usize; 3] {
-        [0, 1, 2].map(|kind| self.0[kind].len() / RECORD_LEN[kind])
+        [0, 1, 2].map(|kind| self.0[kind].len() / RECORD_BYTES[kind])
     }
 }
 

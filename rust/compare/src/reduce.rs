@@ -1,5 +1,5 @@
 //! Makes a differing image smaller while it still differs.
-use answers::image::{fields, image_with, rows, Image, Row, Source, ROW_LEN};
+use answers::image::{fields, image_with, rows, Image, Row, Source, ROW_BYTES};
 use answers::refusal::image_refusal;
 use std::iter::successors;
 use std::time::{Duration, Instant};
@@ -109,7 +109,7 @@ fn smaller_sources(sources: &[Source]) -> impl Iterator<Item = Vec<Source>> + '_
 /// Smaller images out of one that has a refusal: less of a slice, or one field 0.
 fn smaller_slices(image: &Image) -> Vec<Image> {
     let mut all = Vec::new();
-    for less in [ROW_LEN, 4, 1] {
+    for less in [ROW_BYTES, 4, 1] {
         for (rows, words) in [(less, 0), (0, less)] {
             let mut cut = image.clone();
             cut.table.truncate(cut.table.len().saturating_sub(rows));
@@ -192,7 +192,7 @@ mod tests {
     #[test]
     fn a_refused_image_stays_refused() {
         let large = Image { table: vec![1; 43], words: vec![9; 17], ..Image::default() };
-        let small = reduce(large, &mut |image| image.table.len() % ROW_LEN != 0);
+        let small = reduce(large, &mut |image| image.table.len() % ROW_BYTES != 0);
         assert_eq!((small.table.len(), small.words.len()), (1, 0));
     }
 }

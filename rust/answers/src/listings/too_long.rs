@@ -3,7 +3,7 @@ use super::{changed_in, rows, words, Named};
 use crate::packcheck::{MOST_ROWS, MOST_WORDS};
 
 /// Bytes of a word's line.
-const WORD_LEN: usize = 9;
+const WORD_BYTES: usize = 9;
 
 /// One row too many, with one piece of its text changed.
 fn rows_65(from: &str, to: &str) -> Vec<u8> {
@@ -30,7 +30,7 @@ fn too_many_rows() -> Vec<Named> {
 }
 
 fn too_many_words() -> Vec<Named> {
-    let last = |count: usize, to: &str| [&words(count)[..words(count).len() - WORD_LEN], to.as_bytes()].concat();
+    let last = |count: usize, to: &str| [&words(count)[..words(count).len() - WORD_BYTES], to.as_bytes()].concat();
     vec![
         ("words-2048", words(MOST_WORDS)),
         ("words-2049", words(MOST_WORDS + 1)),

@@ -1,6 +1,6 @@
 //! An image with all that the calls and luad need for it, and the comparison of their answers.
 use super::model;
-use answers::image::{rows, Image, Row, BINDING_LEN, DIAGNOSTIC_LEN, ROLE_LEN, ROW_LEN};
+use answers::image::{rows, Image, Row, BINDING_BYTES, DIAGNOSTIC_BYTES, ROLE_BYTES, ROW_BYTES};
 use answers::judge::{added, bindings, decode, diagnostics, preorder, roles};
 use answers::limits::{DIAGNOSTIC_LIMIT, MAX_DIAGNOSTICS};
 use archive::{result, Call};
@@ -47,9 +47,9 @@ fn records<const N: usize>(bytes: &[u8]) -> Vec<[i32; N]> {
 impl Case {
     pub fn new(name: &'static str, image: Image) -> Self {
         let upvalues: usize = rows(&image.table).iter().map(|proto| proto.upvalues as usize).sum();
-        let roles = vec![0; ROLE_LEN * (image.words.len() / 4)];
-        let bindings = vec![0; BINDING_LEN * upvalues];
-        let diagnostics = vec![0; DIAGNOSTIC_LEN * MAX_DIAGNOSTICS];
+        let roles = vec![0; ROLE_BYTES * (image.words.len() / 4)];
+        let bindings = vec![0; BINDING_BYTES * upvalues];
+        let diagnostics = vec![0; DIAGNOSTIC_BYTES * MAX_DIAGNOSTICS];
         let (mut chunk, incoming) = decode(&image);
         let found = added(&chunk.diagnostics, incoming);
         let (found, reached) = (found.len(), reached(found, &chunk.main_proto));
@@ -58,7 +58,7 @@ impl Case {
     }
 
     pub fn rows(&self) -> usize {
-        self.image.table.len() / ROW_LEN
+        self.image.table.len() / ROW_BYTES
     }
 
     pub fn words(&self) -> usize {
@@ -66,7 +66,7 @@ impl Case {
     }
 
     pub fn upvalues(&self) -> usize {
-        self.bindings.len() / BINDING_LEN
+        self.bindings.len() / BINDING_BYTES
     }
 
     pub fn diagnostics(&self) -> usize {
@@ -90,7 +90,7 @@ impl Case {
 
     /// The check call by the proved code, with room for `room` diagnostics.
     fn check_with(&mut self, room: usize) -> u64 {
-        let diagnostics = &mut self.diagnostics[..DIAGNOSTIC_LEN * room];
+        let diagnostics = &mut self.diagnostics[..DIAGNOSTIC_BYTES * room];
         black_box(archive::check(black_box(&self.image), black_box(&mut self.roles), black_box(diagnostics)))
     }
 
@@ -205,7 +205,7 @@ impl Case {
             let found = self.check_with(room);
             self.accepted(Call::Check, found, luads.len(), verdict as u64)?;
             self.same_roles()?;
-            let (ours, past) = self.diagnostics.split_at(DIAGNOSTIC_LEN * luads.len());
+            let (ours, past) = self.diagnostics.split_at(DIAGNOSTIC_BYTES * luads.len());
             self.same(&records(ours), &luads, |at| format!("diagnostic {at}"))?;
             if past.iter().any(|byte| *byte != UNWRITTEN) {
                 return Err(format!("{}: a byte past the diagnostics is written", self.name));

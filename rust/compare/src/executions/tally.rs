@@ -1,7 +1,7 @@
 //! Counts over the executions of valid images.
 use super::images::KINDS;
 use answers::execution::{Choice, End, Execution, Prototype};
-use answers::image::{Image, ROW_LEN};
+use answers::image::{Image, ROW_BYTES};
 use answers::word::op;
 use luad::opcodes::Opcode51;
 use std::collections::BTreeMap;
@@ -53,7 +53,7 @@ impl Tally {
         if is_valid {
             self.kinds[kind].valid += 1;
             let [rows, words] = &mut self.of_images;
-            *rows += (image.table.len() / ROW_LEN) as u64;
+            *rows += (image.table.len() / ROW_BYTES) as u64;
             *words += (image.words.len() / 4) as u64;
         }
     }

@@ -2,7 +2,7 @@
 use super::{Scale, Visit};
 use answers::families::random::{depths, sources};
 use answers::families::refused::set;
-use answers::image::{image, Image, Source, ROW_LEN};
+use answers::image::{image, Image, Source, ROW_BYTES};
 use answers::rng::Rng;
 
 /// Rows of random fields within their limits, with words of random bits.
@@ -31,7 +31,7 @@ fn filled(rng: &mut Rng) -> Vec<Source> {
 
 /// Makes one field any number, or one slice longer or shorter.
 fn break_one(rng: &mut Rng, image: &mut Image) {
-    let row = rng.below((image.table.len() / ROW_LEN) as u32) as usize;
+    let row = rng.below((image.table.len() / ROW_BYTES) as u32) as usize;
     let (table, words) = (image.table.len() as u32, image.words.len() as u32);
     match rng.below(4) {
         0 | 1 => {

@@ -5,6 +5,7 @@ use super::{changed, Flaw, Variant};
 use answers::image::Image;
 use answers::judge::Answer;
 use answers::limits::DIAGNOSTIC_LIMIT;
+use answers::message::CODES;
 use answers::word::op;
 use std::cmp::Reverse;
 
@@ -147,6 +148,6 @@ pub fn variants() -> Vec<Variant> {
             }
         }),
     ]);
-    all.extend((1..=17).map(value_off_by_one));
+    all.extend((1..=CODES.len() as i32).map(value_off_by_one));
     all
 }

@@ -6,7 +6,7 @@ use answers::calls::{outcomes, Outcome};
 use answers::image::{Buffers, Image};
 use answers::judge::Answer;
 use answers::refusal::Refusal;
-use archive::{result, Call, CHECKED, RECORD_LEN};
+use archive::{result, Call, CHECKED, RECORD_BYTES};
 
 /// The answer for one image.
 pub struct Model<'a> {
@@ -46,7 +46,7 @@ impl<'a> Model<'a> {
     /// Writes as many whole records as fit.
     fn write(&self, kind: Call, buffer: &mut [u8]) {
         let records = &self.records.0[kind as usize];
-        let len = records.len().min(buffer.len() / RECORD_LEN[kind as usize] * RECORD_LEN[kind as usize]);
+        let len = records.len().min(buffer.len() / RECORD_BYTES[kind as usize] * RECORD_BYTES[kind as usize]);
         buffer[..len].copy_from_slice(&records[..len]);
         if self.has(Protocol::PastRecordsCleared) {
             buffer[len..].fill(0);

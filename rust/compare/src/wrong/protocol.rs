@@ -1,10 +1,10 @@
 //! Flaws in refusals, figures and buffers.
 use super::{Flaw, Variant};
 use answers::calls::Outcome;
-use answers::image::{rows, Image, Row, ROW_LEN};
+use answers::image::{rows, Image, Row, ROW_BYTES};
 use answers::limits::{MAX_ROWS, MAX_WORDS};
 use answers::refusal::{field_is_over_limit, Refusal, Refused};
-use archive::{Call, RECORD_LEN};
+use archive::{Call, RECORD_BYTES};
 
 #[derive(Debug, Clone, Copy, PartialEq, Eq)]
 pub enum Protocol {
@@ -87,7 +87,7 @@ impl Protocol {
             (Ok(records), Call::Check) if self == CountOneMore => Ok(records + 1),
             (Ok(records), Call::Check) if self == CountOneLess => Ok(records.saturating_sub(1)),
             (Ok(records), Call::Bindings | Call::Check) if self == ExactFitRefused => {
-                let exact = records > 0 && own_len / RECORD_LEN[call as usize] == records;
+                let exact = records > 0 && own_len / RECORD_BYTES[call as usize] == records;
                 if exact {
                     refuse(Refusal::BufferTooShort, records)
                 } else {
@@ -105,7 +105,7 @@ impl Protocol {
             Depth199Refused => refuse_row(right, image, Refusal::BadDepth, |row| row.depth >= 199),
             Stack255Refused => refuse_row(right, image, Refusal::FieldOverLimit, |row| row.stack >= 255),
             Upvalues255Refused => refuse_row(right, image, Refusal::FieldOverLimit, |row| row.upvalues >= 255),
-            RowsAtLimitRefused if image.table.len() / ROW_LEN >= MAX_ROWS => refuse(Refusal::TooLarge, 0),
+            RowsAtLimitRefused if image.table.len() / ROW_BYTES >= MAX_ROWS => refuse(Refusal::TooLarge, 0),
             WordsAtLimitRefused if image.words.len() >= 4 * MAX_WORDS => refuse(Refusal::TooLarge, 0),
             _ => right,
         }
@@ -114,7 +114,7 @@ impl Protocol {
     /// What a refused image gets.
     fn refused(self, refused: Refused, call: Call, image: &Image, own_len: usize, needed: usize) -> Outcome {
         let right = Err(refused);
-        let short = call != Call::Roles && needed > own_len / RECORD_LEN[call as usize];
+        let short = call != Call::Roles && needed > own_len / RECORD_BYTES[call as usize];
         match (self, refused.refusal) {
             (Figure4IsZero, Refusal::BadDepth) => refuse(Refusal::BadDepth, 0),
             (Figure5IsLast, Refusal::FieldOverLimit) => {

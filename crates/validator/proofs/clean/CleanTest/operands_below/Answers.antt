@@ -4,16 +4,16 @@ use Rattle.validator.proofs.clean.CleanTest.operands_below.Goals as goal
 use Rattle.validator.proofs.clean.CleanTest.operands_below.Goals.{then-is_below, else-is_below, then-is_below-2, else-is_below-2, then-field_below, else-field_below, then-field_below-2, else-field_below-2}
 
 pub is_below-requires : goal.is_below-requires
-is_below-requires c = slot_a c.args.self.now.body.now.limits _ _ _ c.args.self.now.limits_of_body c.requires
+is_below-requires c = slot_a c.args.self.now.body.now.limits _ _ _ c.args.self.now.slots_of_body c.requires
 
 pub is_below-requires-then-is_below : goal.is_below-requires-then-is_below
-is_below-requires-then-is_below c = slot_bx c.args.self.now.body.now.limits _ _ _ c.args.self.now.limits_of_body c.requires
+is_below-requires-then-is_below c = slot_bx c.args.self.now.body.now.limits _ _ _ c.args.self.now.slots_of_body c.requires
 
 pub field_below-requires : goal.field_below-requires
-field_below-requires c = slot_b c.args.self.now.body.now.limits _ _ _ c.args.self.now.limits_of_body c.requires
+field_below-requires c = slot_b c.args.self.now.body.now.limits _ _ _ c.args.self.now.slots_of_body c.requires
 
 pub field_below-requires-then-field_below : goal.field_below-requires-then-field_below
-field_below-requires-then-field_below c = slot_c c.args.self.now.body.now.limits _ _ _ c.args.self.now.limits_of_body c.requires
+field_below-requires-then-field_below c = slot_c c.args.self.now.body.now.limits _ _ _ c.args.self.now.slots_of_body c.requires
 
 pub returns-then-span_below : goal.returns-then-span_below
 returns-then-span_below c e =
@@ -24,7 +24,7 @@ returns-then-span_below c e =
                 elim c.if-is_below-2.branch [
                   | then-is_below-2 t ↦
                       elim c.if-is_below.branch [
-                        | then-is_below s ↦ operands_of _ _ _ _ c.args.self.now.limits_of_body c.requires (cc) (cc) (cc) (cc) (cc) (cc)
+                        | then-is_below s ↦ operands_of _ _ _ _ c.args.self.now.slots_of_body c.requires (cc) (cc) (cc) (cc) (cc) (cc)
                         | else-is_below s ↦ cc
                       ]
                   | else-is_below-2 t ↦ cc

@@ -46,7 +46,7 @@ static void numbers(void)
         expect("code", i + 1, CODES[i]);
 }
 
-/* A result and what is to be read from it: the table of crates/luad51/specs/Examples.antt. */
+/* A result and what is to be read from it: the table of crates/luad51_spec/specs/Examples.antt. */
 struct packed {
     uint64_t result;
     uint32_t refusal;

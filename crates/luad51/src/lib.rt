@@ -3,7 +3,7 @@
 #![tactic(auto)]
 
 ghost use Rattle.std.specs.Prelude.{◌≡◌, ◌+◌, ◌<◌, ◌^◌, false, true, length};
-ghost use Rattle.luad51.specs.Results.{Guaranteed, ReadAs, Reads, ReadsCheck, check_result, checked_bit, count_result, packed, refused_result, verdict_number};
+ghost use Rattle.luad51_spec.specs.Results.{Guaranteed, ReadAs, Reads, ReadsCheck, check_result, checked_bit, count_result, packed, refused_result, verdict_number};
 ghost use Rattle.roles_spec.specs.Calls.{bindings_after, bindings_answer, roles_after, roles_answer};
 ghost use Rattle.roles.specs.Terms.{answer_of, refused_of};
 ghost use Rattle.validator.specs.Terms.{answer_of as validation_of, image_of, verdict_of_case};
@@ -62,7 +62,7 @@ pub extern "C" fn luad51_check(
 }
 
 // The result of a check: its refusal, or the number of diagnostics and the verdict.
-#[tactic(auto, unfolding(crate::specs::Results::check_result, crate::specs::Results::ReadsCheck, validator::specs::Terms::answer_of, validator::specs::Terms::checked_of))]
+#[tactic(auto, unfolding(luad51_spec::specs::Results::check_result, luad51_spec::specs::Results::ReadsCheck, validator::specs::Terms::answer_of, validator::specs::Terms::checked_of))]
 fn check_result(answer: Result<Validation, Refusal>) -> u64
     ensures value { result ≡ check_result (validation_of answer) }
     ensures reads_check { ReadsCheck result (validation_of answer) }
@@ -74,7 +74,7 @@ fn check_result(answer: Result<Validation, Refusal>) -> u64
 }
 
 // The header's number of a verdict: the C interface fixes it.
-#[tactic(auto, unfolding(crate::specs::Results::verdict_number, validator::specs::Terms::verdict_of_case))]
+#[tactic(auto, unfolding(luad51_spec::specs::Results::verdict_number, validator::specs::Terms::verdict_of_case))]
 fn verdict_number(verdict: Verdict) -> u8
     ensures value { result ≡ verdict_number (verdict_of_case verdict) }
     ensures small { result < 2 ^ 7 }
@@ -87,7 +87,7 @@ fn verdict_number(verdict: Verdict) -> u8
 }
 
 // The result of another call: its refusal, or the number of records. (Not one function with `check_result`: the common answer would have a verdict.)
-#[tactic(auto, unfolding(crate::specs::Results::count_result, crate::specs::Results::Reads, roles::specs::Terms::answer_of))]
+#[tactic(auto, unfolding(luad51_spec::specs::Results::count_result, luad51_spec::specs::Results::Reads, roles::specs::Terms::answer_of))]
 fn count_result(answer: Result<u32, Refusal>) -> u64
     ensures value { result ≡ count_result (answer_of answer) }
     ensures reads { Reads result (answer_of answer) }
@@ -99,7 +99,7 @@ fn count_result(answer: Result<u32, Refusal>) -> u64
 }
 
 // The result of a refused call. It has no verdict.
-#[tactic(auto, unfolding(crate::specs::Results::refused_result))]
+#[tactic(auto, unfolding(luad51_spec::specs::Results::refused_result))]
 fn refused_result(refusal: Refusal) -> u64
     ensures value { result ≡ refused_result (refused_of refusal) }
     ensures read_as { ReadAs result (refused_of refusal).number (refused_of refusal).figure 0 false }

@@ -1,7 +1,7 @@
 -- Worked examples of results: the table of tests/c/header.c, which the header's own accessors compute there. proofs/PassLaws proves it of their transcriptions.
 -- Assumes nothing: these are definitions.
 use Rattle.std.specs.Prelude.{ℕ, Bool, true, false, List, [], ◌∷◌}
-use Rattle.luad51.specs.Results.{Reading}
+use Rattle.luad51_spec.specs.Results.{Reading}
 
 -- a result, and what is to be read from it
 pub record Example : Type 0 where

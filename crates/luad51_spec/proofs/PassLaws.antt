@@ -12,9 +12,9 @@ use Rattle.validator_spec.specs.Walk.{Verdict, ValidForParser, Incomplete, Inval
 use Rattle.validator_spec.specs.Image.{Image, image_protos}
 use Rattle.validator_spec.specs.Check.{Checked}
 use Rattle.validator_spec.specs.Statements.{Guarantee, Passed}
-use Rattle.luad51.specs.Results.{check_result, checked_bit, verdict_number, verdict_of_number, refusal_in, figure_in, verdict_in, is_checked, is_pass, reading, answer_in, ReadAs, Reads, ReadsCheck, Guaranteed}
-use Rattle.luad51.specs.Examples.{examples}
-use Rattle.luad51.proofs.ResultLaws.{answer_kept}
+use Rattle.luad51_spec.specs.Results.{check_result, checked_bit, verdict_number, verdict_of_number, refusal_in, figure_in, verdict_in, is_checked, is_pass, reading, answer_in, ReadAs, Reads, ReadsCheck, Guaranteed}
+use Rattle.luad51_spec.specs.Examples.{examples}
+use Rattle.luad51_spec.proofs.ResultLaws.{answer_kept}
 
 -- the accessors read from each result of the table what stands beside it
 pub examples_hold : map (λ e. reading e.result) examples ≡ map (λ e. e.expected) examples

@@ -85,6 +85,11 @@ wrote() {
     "$@" <"$input" >"$work/written" && cmp "$work/written" "$expected"
 }
 
+# sum_of_sources COMMAND..: a sum of what the command reads where it makes something of the crates
+sum_of_sources() {
+    { rt version && echo "$*" && find crates.txt crates/*/{src,specs,proofs} -type f | LC_ALL=C sort | xargs sha256sum; } | sha256sum
+}
+
 # made CRATE FILE COMMAND..: crates/CRATE/out/FILE is what the command makes of the crates as they stand, with this toolchain. If no note in target/ says
 # so, it is made. One process at a time, since another part may link the file.
 made() {
@@ -92,7 +97,7 @@ made() {
     shift 2
     mkdir -p target && (
         flock 9
-        sources=$({ rt version && echo "$*" && find crates.txt crates/*/{src,specs,proofs} -type f | LC_ALL=C sort | xargs sha256sum; } | sha256sum)
+        sources=$(sum_of_sources "$@")
         [ -f "$file" ] && [ "$sources $(sha256sum <"$file")" = "$(cat "$note" 2>/dev/null)" ] && exit
         (cd "crates/$crate" && "$@" </dev/null) && [ -f "$file" ] && echo "$sources $(sha256sum <"$file")" >"$note"
     ) 9>target/making
@@ -101,8 +106,11 @@ made() {
 # archive NAME: the archive of this crate, for any processor of the x86-64 family
 archive() { made "$1" "lib$1.a" rt lib --cpu=x86-64; }
 
-# program NAME: the program of this crate; rt ci leaves it there, too
+# program NAME: the program of this crate
 program() { made "$1" "$1" rt run; }
+
+# left_by_ci NAME: notes that the program of this crate is there, after an rt ci that passed: it leaves what rt run would make
+left_by_ci() { mkdir -p target && echo "$(sum_of_sources rt run) $(sha256sum <"crates/$1/out/$1")" >"target/made-$1-$1"; }
 
 # feeds_packcheck DIR: packcheck, fed DIR/NAME.in, ends with status 0 and writes NAME.out, for every NAME. Prints the first pairs that differ and how
 # many were compared: none is a failure

@@ -1,5 +1,5 @@
-//! Wrong answers on the images of the quick run: each must be told from luad's, and luad's own never. Large images take
-//! long, so they are tried only with the wrong answers that no image before has told.
+//! Wrong answers on the images of the quick run: each must be told from luad's, and luad's own never. One that many images
+//! have told is tried no more. Large images take long, so they are tried only with wrong answers that none before has told.
 use crate::case::{Case, Records};
 use crate::comparer::Comparer;
 use crate::kinds::{each_image, Scale, KINDS};
@@ -7,6 +7,9 @@ use crate::wrong::{variants, Flaw, Model, Variant};
 
 /// Bytes above which an image is large.
 const LARGE: usize = 100_000;
+
+/// Images that tell a variant, after which it is tried no more.
+const ENOUGH: u64 = 1000;
 
 /// The images that told a variant from luad, and the kind of the first.
 #[derive(Clone, Copy, Default)]
@@ -45,7 +48,9 @@ fn is_told(comparer: &mut Comparer, variant: &Variant, case: &Case, number: u64)
 fn print(told: &[Told], variants: &[Variant]) {
     println!("{:<52}{:>10}  first in", "wrong answer", "told by");
     for (told, variant) in told.iter().zip(variants) {
-        println!("{:<52}{:>10}  {}", variant.name, told.images, told.first.map_or("-", |kind| KINDS[kind].0));
+        let more = if told.images == ENOUGH { "+" } else { "" };
+        let first = told.first.map_or("-", |kind| KINDS[kind].0);
+        println!("{:<52}{:>9}{:1}  {first}", variant.name, told.images, more);
     }
 }
 
@@ -60,8 +65,8 @@ pub fn run(seed: u64) -> bool {
         false_alarms += u64::from(right.is_some());
         let large = case.image.words.len() + case.image.table.len() > LARGE;
         for (told, variant) in told.iter_mut().zip(&variants) {
-            let tried = !large || told.images == 0;
-            if tried && is_told(&mut comparer, variant, &case, images) {
+            let most = if large { 1 } else { ENOUGH };
+            if told.images < most && is_told(&mut comparer, variant, &case, images) {
                 told.add(kind);
             }
         }

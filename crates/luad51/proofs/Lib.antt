@@ -1,1 +1,1 @@
-pub mod GuaranteedLaws
+pub mod CheckedNumberLaws

@@ -1,5 +1,5 @@
 -- Demand 3 of the number.
-use Rattle.luad51.proofs.GuaranteedLaws.{guaranteed}
+use Rattle.luad51.proofs.CheckedNumberLaws.{guaranteed}
 use Rattle.luad51.proofs.luad51_check.Goals as goal
 
 pub returns-clause-guaranteed : goal.returns-clause-guaranteed

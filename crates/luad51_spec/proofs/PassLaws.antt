@@ -12,14 +12,19 @@ use Rattle.validator_spec.specs.Walk.{Verdict, ValidForParser, Incomplete, Inval
 use Rattle.validator_spec.specs.Image.{Image, image_protos}
 use Rattle.validator_spec.specs.Check.{Checked}
 use Rattle.validator_spec.specs.Statements.{Guarantee, Passed}
-use Rattle.luad51_spec.specs.Results.{check_result, checked_bit, verdict_number, verdict_of_number, refusal_in, figure_in, verdict_in, is_checked, is_pass, reading, answer_in, ReadAs, Reads, ReadsCheck, Guaranteed}
-use Rattle.luad51_spec.specs.Examples.{examples}
+use Rattle.luad51_spec.specs.Results.{refused_result, count_result, check_result, checked_bit, verdict_number, verdict_of_number, refusal_in, figure_in, verdict_in, is_checked, is_pass, reading, answer_in, ReadAs, Reads, ReadsCheck, Guaranteed}
+use Rattle.luad51_spec.specs.Examples.{examples, check_answers, check_results, count_answers, count_results}
 use Rattle.luad51_spec.proofs.ResultLaws.{answer_kept}
 
 -- the accessors read from each result of the table what stands beside it
 pub examples_hold : map (λ e. reading e.result) examples ≡ map (λ e. e.expected) examples
 unfolding examples reading refusal_in figure_in verdict_in is_checked is_pass
 examples_hold = refl
+
+-- the answers of the table have the results that stand there
+pub results_hold : (map check_result check_answers ≡ check_results) × (map count_result count_answers ≡ count_results)
+unfolding check_answers check_results count_answers count_results check_result count_result refused_result verdict_number
+results_hold = (refl, refl)
 
 -- 0 is no pass: a result that nobody set
 pub no_pass_0 : is_pass 0 ≡ false

@@ -1,6 +1,9 @@
--- Worked examples of results: the table of tests/c/header.c, which the header's own accessors compute there. proofs/PassLaws proves it of their transcriptions.
--- Assumes nothing: these are definitions.
+-- Worked examples of results: what is read from each, as in the table of tests/c/header.c, where the header's own accessors compute it, and the answers of
+-- some. proofs/PassLaws proves them. Assumes nothing: these are definitions.
 use Rattle.std.specs.Prelude.{ℕ, Bool, true, false, List, [], ◌∷◌}
+use Rattle.roles_spec.specs.Calls.{Answer, refused, accepted}
+use Rattle.validator_spec.specs.Walk.{ValidForParser, Incomplete, Invalid}
+use Rattle.validator_spec.specs.Check.{Checked}
 use Rattle.luad51_spec.specs.Results.{Reading}
 
 -- a result, and what is to be read from it
@@ -48,3 +51,24 @@ examples =
     ∷ example 0xffff7fffffffffff 255 4294967295 127 false false
     ∷ example 0xffffffffffffffff 255 4294967295 127 true false
     ∷ []
+
+-- answers of the check call
+unfoldable pub check_answers : List (Answer Checked)
+check_answers =
+    accepted (record { verdict = ValidForParser; count = 10255 })
+    ∷ accepted (record { verdict = Incomplete; count = 1 })
+    ∷ accepted (record { verdict = Invalid; count = 10255 })
+    ∷ refused (record { number = 5; figure = 16383 })
+    ∷ []
+
+-- the results of these answers
+unfoldable pub check_results : List ℕ
+check_results = 0x80000000280f ∷ 0x810000000001 ∷ 0x82000000280f ∷ 0x500003fff ∷ []
+
+-- answers of the roles call and the bindings call
+unfoldable pub count_answers : List (Answer ℕ)
+count_answers = accepted 4177920 ∷ refused (record { number = 8; figure = 4177920 }) ∷ []
+
+-- the results of these answers
+unfoldable pub count_results : List ℕ
+count_results = 0x3fc000 ∷ 0x8003fc000 ∷ []

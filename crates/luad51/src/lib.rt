@@ -99,7 +99,7 @@ fn count_result(answer: Result<u32, Refusal>) -> u64
 }
 
 // The result of a refused call. It has no verdict.
-#[tactic(auto, unfolding(luad51_spec::specs::Results::refused_result))]
+#[tactic(auto, unfolding(luad51_spec::specs::Results::refused_result, roles::specs::Terms::refused_of))]
 fn refused_result(refusal: Refusal) -> u64
     ensures value { result ≡ refused_result (refused_of refusal) }
     ensures read_as { ReadAs result (refused_of refusal).number (refused_of refusal).figure 0 false }

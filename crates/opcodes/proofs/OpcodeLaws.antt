@@ -9,8 +9,9 @@ use lib.Dec.{ltb}
 use lib.ListN.{length, get_or}
 use Rattle.std.proofs.Common.{ltb-false}
 use Rattle.base.specs.Lists.{tabulate}
-use Rattle.opcodes.specs.Words.{number_of, opcodes, opcode_at, opcode_of, opcode_count, VARARG}
+use Rattle.opcodes.specs.Words.{number_of, opcodes, opcode_at, opcode_number, opcode_of, opcode_count, VARARG}
 use Rattle.opcodes.specs.declared.Opcode51.{Opcode51}
+use Rattle.opcodes.specs.declared.OpcodeField.{OpcodeField}
 use Rattle.opcodes.specs.declared.OpcodeField.TheVariants.{Known, Unknown}
 use Rattle.base.proofs.ListLaws.{get_d_tabulate}
 
@@ -49,6 +50,22 @@ known_number n o q =
     sym (get_d_tabulate (λ n. n) opcode_count n 0 (known_below n o q))
     ∙ ap (λ (ns : List ℕ). get_or ns n 0) (sym in_order)
     ∙ number_at opcodes n n o q
+
+-- an unknown opcode keeps its number
+unknown_at : (os : List Opcode51) (k n m : ℕ) → opcode_at os k n ≡ Unknown m → n ≡ m
+unfolding opcode_at
+unknown_at [] k n m q = cc
+unknown_at (p ∷ os) zero n m q = let z : ◌≡◌ {A = ℕ} 0 1 = cc in absurd (omega arith)
+unknown_at (p ∷ os) (suc k) n m q = unknown_at os k n m q
+
+-- so no number is lost
+pub number_kept : (n : ℕ) → opcode_number (opcode_of n) ≡ n
+unfolding opcode_of opcode_number
+number_kept n = go (opcode_of n) refl
+  where
+    go : (o : OpcodeField) → opcode_of n ≡ o → opcode_number o ≡ n
+    go (Known o) q = sym (known_number n o q)
+    go (Unknown m) q = sym (unknown_at opcodes n n m q)
 
 -- the number of an unknown opcode is past the list
 listed_known : (os : List Opcode51) (k n m : ℕ) → k < length os → opcode_at os k n ≡ Unknown m → ⊥

@@ -1,4 +1,4 @@
-use Rattle.std.proofs.Common.{◌+◌, ◌*◌, ◌-◌, ◌≤◌, ◌∙◌, length, get_or, sym, arith}
+use Rattle.std.proofs.Common.{◌+◌, ◌*◌, ◌-◌, ◌≤◌, ◌∙◌, length, get_or, sym, arith, rules}
 use borrow.Author.Tests.{leb-true}
 use Rattle.base.specs.Bytes.{u32_bytes}
 use Rattle.base.proofs.ByteLaws.{length_u32_record, no_room, put_overwrite, record_none, record_next}
@@ -18,4 +18,4 @@ loop-i-preserved c =
     let values = c.args.values.now in
     let room : at + 4 * length values ≤ length c.args.out.now = leb-true _ _ (sym c.has_room.ensures ∙ c.if-not-has_room.false) in
     record_next c.args.out.now _ _ at i values (omega arith) room c.loop-i.invariant
-    (put_overwrite c.loop-i.out (u32_bytes (get_or values i 0)) _ (at + 4 * i) (at + 4 * i + 4 - (at + 4 * i)) (c.copy_from_slice.ensures.after ∙ c.to_le_bytes.ensures) (omega arith) (omega arith))
+    (put_overwrite c.loop-i.out (u32_bytes (get_or values i 0)) _ (at + 4 * i) (at + 4 * i + 4 - (at + 4 * i)) (search rules) (omega arith) (omega arith))
